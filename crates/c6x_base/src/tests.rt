@@ -1,0 +1,18 @@
+use crate::{Bytes, Name, Row};
+use std::alloc::AllocError;
+
+#[test]
+fn memory_is_given(rt: HostRuntime) -> Result<(), AllocError> {
+    let alloc = rt.alloc();
+    let name = Name::from_bytes(alloc, b"app.out")?;
+    let copied = name.copy(alloc)?;
+    assert!(&rt; copied.as_bytes() == b"app.out".as_slice());
+
+    let bytes = Bytes::from_bytes(alloc, &[1, 2, 3])?;
+    assert!(&rt; bytes.as_bytes() == [1, 2, 3].as_slice());
+
+    let row = Row::of(vec![in alloc; 7u32, 8]?);
+    assert_eq!(&rt; row.as_slice().len(), 2);
+    assert_eq!(&rt; row.into_vec().len(), 2);
+    Ok(())
+}
