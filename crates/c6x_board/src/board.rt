@@ -1,0 +1,171 @@
+ghost use Rattle.std.specs.Prelude.{◌≡◌, ℕ, ◌-◌, ◌≤◌, [], ◌∷◌, length, IfOk, replicate, false};
+ghost use Rattle.std.specs.Int.{to_le_bytes, w16, w32};
+ghost use Rattle.c6x_spec.specs.Memory.{Memory, CanStart, IsOnMemory, written, byte_in};
+ghost use Rattle.c6x_board.specs.Written.{IsWritten};
+ghost use Rattle.c6x_spec.specs.Numbers.{half_at, word_at};
+
+use crate::splices::{clear_at, put_at};
+use byteorder::{ByteOrder, LittleEndian};
+use std::alloc::{AllocError, Global};
+use std::marker::Model;
+
+/// The memory: a base address and the bytes from it on.
+///
+/// Numbers in it are little-endian: the first byte is worth least. Each write has two clauses that say the same, `after`
+/// as one equation and `changes` address by address: its own bytes change and no others.
+#[derive(Debug, Drop)]
+pub struct Board {
+    base: u32,
+    bytes: Vec<u8>,
+}
+
+impl Model for Board {
+    ghost use Rattle.std.specs.Prelude.{vec_len};
+    ghost use Rattle.c6x_spec.specs.Memory.{Memory, CanStart};
+
+    ghost Value = { Memory };
+
+    ghost view = { λ b. record { base = b.base; bytes = b.bytes.items } };
+
+    ghost invariant = { λ b. CanStart b.base (vec_len b.bytes) };
+}
+
+impl Board {
+    /// `len` zero bytes from the address `base` on.
+    pub fn new(alloc: Global, base: u32, len: u32) -> Result<Board, AllocError>
+        requires { CanStart base len }
+        ensures { IfOk result (λ board. board ≡ record { base = base; bytes = replicate len 0 }) }
+    {
+        let bytes = vec![in alloc; 0; len as usize]?;
+        Ok(Board { base, bytes })
+    }
+
+    /// The address of the first byte.
+    pub fn base(&self) -> u32
+        ensures { result ≡ self.now.base }
+    {
+        self.base
+    }
+
+    /// The number of bytes. What every board keeps of its base and length is told here.
+    pub fn len(&self) -> u32
+        ensures value { result ≡ length self.now.bytes }
+        ensures whole { CanStart self.now.base (length self.now.bytes) }
+    {
+        self.bytes.len() as u32
+    }
+
+    /// The byte at this address.
+    pub fn read8(&self, at: u32) -> u8
+        requires { IsOnMemory self.now at 1 }
+        ensures { result ≡ byte_in self.now at }
+    {
+        self.bytes[self.place(at)]
+    }
+
+    /// The number of the two bytes from this address on.
+    #[tactic(auto, unfolding(c6x_spec::specs::Numbers::half_at))]
+    pub fn read16(&self, at: u32) -> u16
+        requires { IsOnMemory self.now at 2 }
+        ensures { result ≡ half_at false self.now.bytes (at - self.now.base) }
+    {
+        LittleEndian::read_u16(&self.bytes[self.place(at)..])
+    }
+
+    /// The number of the four bytes from this address on.
+    #[tactic(auto, unfolding(c6x_spec::specs::Numbers::word_at))]
+    pub fn read32(&self, at: u32) -> u32
+        requires { IsOnMemory self.now at 4 }
+        ensures { result ≡ word_at false self.now.bytes (at - self.now.base) }
+    {
+        LittleEndian::read_u32(&self.bytes[self.place(at)..])
+    }
+
+    /// Writes one byte.
+    pub fn write8(&mut self, at: u32, value: u8)
+        requires { IsOnMemory self.old at 1 }
+        ensures after { self.new ≡ written self.old at (value ∷ []) }
+        ensures changes { IsWritten self.old at (value ∷ []) self.new }
+    {
+        self.copy_in(at, &[value]);
+    }
+
+    /// Writes the two bytes of a number, lowest first.
+    pub fn write16(&mut self, at: u32, value: u16)
+        requires { IsOnMemory self.old at 2 }
+        ensures after { self.new ≡ written self.old at (to_le_bytes w16 value) }
+        ensures changes { IsWritten self.old at (to_le_bytes w16 value) self.new }
+    {
+        self.copy_in(at, &value.to_le_bytes());
+    }
+
+    /// Writes the four bytes of a number, lowest first.
+    pub fn write32(&mut self, at: u32, value: u32)
+        requires { IsOnMemory self.old at 4 }
+        ensures after { self.new ≡ written self.old at (to_le_bytes w32 value) }
+        ensures changes { IsWritten self.old at (to_le_bytes w32 value) self.new }
+    {
+        self.copy_in(at, &value.to_le_bytes());
+    }
+
+    /// Writes these bytes.
+    pub fn copy_in(&mut self, at: u32, bytes: &[u8])
+        requires { IsOnMemory self.old at (length bytes.now) }
+        ensures after { self.new ≡ written self.old at bytes.now }
+        ensures changes { IsWritten self.old at bytes.now self.new }
+    {
+        let from = self.place(at);
+        put_at(&mut self.bytes, from, bytes);
+    }
+
+    /// Writes `len` zero bytes.
+    pub fn zero(&mut self, at: u32, len: u32)
+        requires { IsOnMemory self.old at len }
+        ensures after { self.new ≡ written self.old at (replicate len 0) }
+        ensures changes { IsWritten self.old at (replicate len 0) self.new }
+    {
+        let from = self.place(at);
+        clear_at(&mut self.bytes, from, len as usize);
+    }
+
+    /// The position of an address among the bytes.
+    fn place(&self, at: u32) -> usize
+        requires { self.now.base ≤ at }
+        ensures { result ≡ at - self.now.base }
+    {
+        (at - self.base) as usize
+    }
+}
+
+#[cfg(test)]
+mod tests {
+    use super::*;
+
+    // Memory is ample here, so `new` answers a board. Numbers come back as they were written, and their neighbours stay.
+    #[test]
+    fn reads_what_was_written(rt: HostRuntime) -> Result<(), AllocError> {
+        let mut board = Board::new(rt.alloc(), 0x8000_0000, 32)?;
+        assert_eq!(rt;
+            (board.base(), board.len(), board.read32(0x8000_001C)),
+            (0x8000_0000, 32, 0)
+        );
+        board.copy_in(0x8000_0000, &[0xAA; 32]);
+        board.write32(0x8000_0004, 0x1234_5678);
+        board.write16(0x8000_000A, 0xBEEF);
+        board.write8(0x8000_001F, 0x7F);
+        board.zero(0x8000_0010, 3);
+        assert_eq!(rt; board.read32(0x8000_0004), 0x1234_5678);
+        assert_eq!(rt; board.read8(0x8000_0004), 0x78);
+        assert_eq!(rt;
+            (board.read8(0x8000_0003), board.read8(0x8000_0008)),
+            (0xAA, 0xAA)
+        );
+        assert_eq!(rt;
+            (board.read16(0x8000_0008), board.read16(0x8000_000A)),
+            (0xAAAA, 0xBEEF)
+        );
+        assert_eq!(rt; board.read32(0x8000_0010), 0xAA00_0000);
+        assert_eq!(rt; board.read32(0x8000_001C), 0x7FAA_AAAA);
+        Ok(())
+    }
+}
