@@ -1,0 +1,17 @@
+use Rattle.std.proofs.Common.{arith}
+use Rattle.std.proofs.lemmas.Grind.{common_steps}
+use Rattle.c6x_ports.proofs.Carried.{HasGiven-read, front_at_stop, front_at_limit}
+use Rattle.c6x_ports.proofs.streams.read_front.Goals as goal
+
+pub loop-chunk-preserved : goal.loop-chunk-preserved
+loop-chunk-preserved g c = record {
+  within = grind (arith, common_steps, c.in-Ok.ensures.bound, c.in_ok-extend_from_slice-in-Ok.ensures.len);
+  told = λ left is. rw c.in_ok-extend_from_slice-in-Ok.ensures.items (HasGiven-read left _ _ _ _ (c.loop-chunk.invariant.told left is) c.in-Ok.ensures.bytes.0);
+}
+
+pub returns-in-Ok-eq0-clause-front : goal.returns-in-Ok-eq0-clause-front
+returns-in-Ok-eq0-clause-front g c left is =
+    front_at_stop left _ _ _ _ _ _ (omega (arith, c.loop-chunk.all.ok.0)) (c.loop-chunk.invariant.told left is) c.in-Ok-eq0.field-0-test c.in-Ok-eq0.ensures.bytes.0 (c.in-Ok-eq0.ensures.bytes.1 c.in-Ok-eq0.field-0-test (grind (arith, common_steps)))
+
+pub returns-clause-front : goal.returns-clause-front
+returns-clause-front g c left is = front_at_limit left _ _ _ (omega (arith, c.loop-chunk.all.ok.0)) (c.loop-chunk.invariant.told left is)

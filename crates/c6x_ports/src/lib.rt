@@ -1,0 +1,30 @@
+//! The outside of the linker and loader: a shelf of files and the streams that are written to.
+//!
+//! [`Shelf`] and [`Sink`] say what every implementation keeps. A shelf in memory tells the files that it has, a sink in
+//! memory the bytes that it took; the adapters over the file system and the standard streams tell nothing, and count
+//! their faults.
+#![tactic(auto)]
+
+mod dir_shelf;
+mod found;
+mod memory_shelf;
+mod memory_sink;
+mod numbered;
+mod parts;
+mod shelf;
+mod sink;
+mod std_sinks;
+mod stored;
+mod streams;
+
+pub use dir_shelf::DirShelf;
+pub use memory_shelf::MemoryShelf;
+pub use memory_sink::MemorySink;
+pub use parts::put_parts;
+pub use shelf::{Shelf, ShelfError};
+pub use sink::{Sink, SinkError};
+pub use std_sinks::{ErrSink, OutSink};
+pub use stored::Stored;
+
+#[cfg(test)]
+mod tests;
