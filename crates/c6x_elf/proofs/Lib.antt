@@ -1,0 +1,10 @@
+pub mod EntryWalks
+pub mod Kept
+pub mod Moves
+pub mod Orders
+pub mod Placed
+pub mod Puts
+pub mod ReadForm
+pub mod Spots
+pub mod Walks
+pub mod WayBack

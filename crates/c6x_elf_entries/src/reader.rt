@@ -1,0 +1,77 @@
+ghost use Rattle.std.specs.Prelude.{◌≡◌, false};
+ghost use Rattle.c6x_elf_entries.specs.Entries.{dynamic_of, rela_of, symbol_of};
+
+use crate::dyn_entry::Dyn;
+use crate::number::{read_half, read_word};
+use crate::rela_entry::Rela;
+use crate::symbol_entry::Symbol;
+
+/// The symbol with this number, counted from 0; None exactly where it is not wholly in the table.
+pub fn symbol(table: &[u8], number: u32) -> Option<Symbol>
+    ensures { result ≡ symbol_of false table.now number }
+{
+    read_symbol(false, table, number)
+}
+
+/// The relocation entry with this number, counted from 0; None exactly where it is not wholly in the
+/// table.
+pub fn rela(table: &[u8], number: u32) -> Option<Rela>
+    ensures { result ≡ rela_of false table.now number }
+{
+    read_rela(false, table, number)
+}
+
+/// The dynamic entry with this number, counted from 0; None exactly where it is not wholly in the
+/// table.
+pub fn dynamic(table: &[u8], number: u32) -> Option<Dyn>
+    ensures { result ≡ dynamic_of false table.now number }
+{
+    read_dynamic(false, table, number)
+}
+
+/// `symbol` in either byte order.
+pub fn read_symbol(big: bool, table: &[u8], number: u32) -> Option<Symbol>
+    ensures { result ≡ symbol_of big table.now number }
+{
+    let at = number as usize * 16;
+    if table.len() < at + 16 {
+        return None;
+    }
+    Some(Symbol {
+        name: read_word(big, table, at),
+        value: read_word(big, table, at + 4),
+        size: read_word(big, table, at + 8),
+        info: table[at + 12],
+        other: table[at + 13],
+        section: read_half(big, table, at + 14),
+    })
+}
+
+/// `rela` in either byte order.
+pub fn read_rela(big: bool, table: &[u8], number: u32) -> Option<Rela>
+    ensures { result ≡ rela_of big table.now number }
+{
+    let at = number as usize * 12;
+    if table.len() < at + 12 {
+        return None;
+    }
+    Some(Rela {
+        offset: read_word(big, table, at),
+        info: read_word(big, table, at + 4),
+        addend: read_word(big, table, at + 8).cast_signed(),
+    })
+}
+
+/// `dynamic` in either byte order.
+pub fn read_dynamic(big: bool, table: &[u8], number: u32) -> Option<Dyn>
+    ensures { result ≡ dynamic_of big table.now number }
+{
+    let at = number as usize * 8;
+    if table.len() < at + 8 {
+        return None;
+    }
+    Some(Dyn {
+        tag: read_word(big, table, at),
+        value: read_word(big, table, at + 4),
+    })
+}

@@ -1,0 +1,5 @@
+pub mod HeadRows
+pub mod Holdings
+pub mod Layouts
+pub mod NumberRows
+pub mod Passing

@@ -1,0 +1,3 @@
+pub mod HeadRows
+pub mod Laid
+pub mod Rows
