@@ -1,0 +1,33 @@
+/// A relocation kind of the C6000 that has a value here, by SPRAB89's name without `R_C6000_`.
+#[allow(non_camel_case_types)]
+#[derive(Clone, Copy, Debug, PartialEq, Eq)]
+pub enum RelocKind {
+    NONE,
+    ABS32,
+    ABS16,
+    ABS8,
+    PCR_S21,
+    PCR_S12,
+    PCR_S7,
+    ABS_S16,
+    ABS_L16,
+    ABS_H16,
+    SBR_U15_B,
+    SBR_U15_H,
+    SBR_U15_W,
+    SBR_S16,
+    SBR_L16_B,
+    SBR_L16_H,
+    SBR_L16_W,
+    SBR_H16_B,
+    SBR_H16_H,
+    SBR_H16_W,
+    SBR_GOT_U15_W,
+    SBR_GOT_L16_W,
+    SBR_GOT_H16_W,
+    DSBT_INDEX,
+    JUMP_SLOT,
+    ALIGN,
+    FPHEAD,
+    NOCMP,
+}

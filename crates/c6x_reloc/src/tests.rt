@@ -1,0 +1,64 @@
+use crate::{Inputs, RelocError, RelocKind, kind_of, patch, value, width};
+
+/// Inputs of zeros but for the symbol's address.
+fn symbol_at(s: u32) -> Inputs {
+    Inputs {
+        s,
+        a: 0,
+        p: 0,
+        b: 0,
+        g: 0,
+        index: 0,
+    }
+}
+
+#[test]
+fn values_of_kinds(rt: HostRuntime) {
+    let got = Inputs {
+        a: 4,
+        ..symbol_at(0)
+    };
+    assert_eq!(&rt;
+        value(RelocKind::SBR_GOT_U15_W, &got),
+        Err(RelocError::Addend)
+    );
+    for (s, want) in [
+        (0x40, Ok(16)),
+        (0x003F_FFFC, Ok(0xF_FFFF)),
+        (0x0040_0000, Err(RelocError::Range)),
+        (0x42, Err(RelocError::Align)),
+    ] {
+        let branch = Inputs {
+            p: 0x1C,
+            ..symbol_at(s)
+        };
+        assert_eq!(&rt; value(RelocKind::PCR_S21, &branch), want, "at {s}");
+    }
+    for (s, want) in [
+        (131_068, Ok(32_767)),
+        (131_072, Err(RelocError::Range)),
+        (131_066, Err(RelocError::Align)),
+    ] {
+        assert_eq!(&rt; value(RelocKind::SBR_U15_W, &symbol_at(s)), want, "at {s}");
+    }
+    let below = Inputs {
+        a: -4,
+        ..symbol_at(0)
+    };
+    assert_eq!(&rt; value(RelocKind::ABS32, &below), Ok(0xFFFF_FFFC));
+    let index = Inputs {
+        index: 5,
+        ..symbol_at(0)
+    };
+    assert_eq!(&rt; value(RelocKind::DSBT_INDEX, &index), Ok(5));
+}
+
+#[test]
+#[tactic(auto, unfolding(crate::specs::Table::row_of))]
+fn fields_of_kinds(rt: HostRuntime) {
+    assert_eq!(&rt; kind_of(26), Err(RelocError::Kind));
+    assert_eq!(&rt; kind_of(4), Ok(RelocKind::PCR_S21));
+    assert_eq!(&rt; width(RelocKind::PCR_S21), 21);
+    assert_eq!(&rt; width(RelocKind::NONE), 0);
+    assert_eq!(&rt; patch(0x0700_006E, RelocKind::DSBT_INDEX, 5), 0x0700_056E);
+}
