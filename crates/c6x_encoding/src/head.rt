@@ -1,0 +1,8 @@
+use c6x_instr::Cond;
+
+/// What every word has: its condition and its p bit.
+#[derive(Clone, Copy, Debug)]
+pub struct Head {
+    pub condition: Cond,
+    pub chained: bool,
+}
