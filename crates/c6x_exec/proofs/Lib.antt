@@ -1,0 +1,11 @@
+pub mod Slots
+pub mod Noted
+pub mod Registers
+pub mod Areas
+pub mod Words
+pub mod Plain
+pub mod Outcomes
+pub mod Going
+pub mod Beginning
+pub mod Worked
+pub mod Carried

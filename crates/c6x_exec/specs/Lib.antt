@@ -1,0 +1,12 @@
+pub mod History
+pub mod Area
+pub mod Origin
+pub mod Packet
+pub mod Machine
+pub mod Pending
+pub mod Stands
+pub mod Sound
+pub mod Fits
+pub mod Fetched
+pub mod Process
+pub mod Laws
