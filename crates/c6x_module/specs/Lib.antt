@@ -1,0 +1,5 @@
+pub mod Alignment
+pub mod Plain
+pub mod Heads
+pub mod Valid
+pub mod Answer

@@ -1,0 +1,4 @@
+pub mod Words
+pub mod Plain
+pub mod Answer
+pub mod Parts
