@@ -1,0 +1,6 @@
+pub mod Writes
+pub mod Sizes
+pub mod Places
+pub mod InOrder
+pub mod Starts
+mod WorkedRow

@@ -1,0 +1,3 @@
+pub mod Placement
+pub mod Start
+pub mod Loaded
