@@ -1,0 +1,5 @@
+pub mod Keywords
+pub mod Kinds
+pub mod Directives
+pub mod Fields
+pub mod Bounds

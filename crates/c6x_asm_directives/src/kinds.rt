@@ -1,0 +1,83 @@
+ghost use Rattle.std.specs.Prelude.{◌≡◌, None};
+ghost use Rattle.c6x_asm_directives.specs.Kinds.{lowest, stands_wrong, kind_fault, value_fault, offset_fault, operand_fault, kinds_from};
+
+use c6x_asm_lines::{Offset, Operand, Plain, Value};
+use c6x_asm_operands::{AsmRule, bytes_of, kind_of, lower};
+use c6x_reloc::RelocKind;
+
+/// The lower of two rules, where there are two.
+pub fn lowest(a: Option<AsmRule>, b: Option<AsmRule>) -> Option<AsmRule>
+    ensures { result ≡ lowest a b }
+{
+    match (a, b) {
+        (None, other) => other,
+        (Some(a), None) => Some(a),
+        (Some(a), Some(b)) => Some(lower(a, b)),
+    }
+}
+
+fn stands_wrong(kind: RelocKind, inner: Option<Plain>) -> bool
+    ensures { result ≡ stands_wrong kind inner }
+{
+    match (kind, inner) {
+        (RelocKind::DSBT_INDEX, None) => false,
+        (RelocKind::DSBT_INDEX, Some(_)) => true,
+        (_, None) => true,
+        (_, Some(_)) => false,
+    }
+}
+
+fn kind_fault(kind: Option<RelocKind>, inner: Option<Plain>) -> Option<AsmRule>
+    ensures { result ≡ kind_fault kind inner }
+{
+    match kind {
+        None => Some(AsmRule::UnknownWord),
+        Some(kind) => {
+            if stands_wrong(kind, inner) {
+                Some(AsmRule::Syntax)
+            } else {
+                None
+            }
+        }
+    }
+}
+
+fn value_fault(text: &[u8], value: Value) -> Option<AsmRule>
+    ensures { result ≡ value_fault text.now value }
+{
+    match value {
+        Value::Plain(_) => None,
+        Value::Kind { kind, inner } => kind_fault(kind_of(bytes_of(text, kind)), inner),
+    }
+}
+
+fn offset_fault(text: &[u8], offset: Offset) -> Option<AsmRule>
+    ensures { result ≡ offset_fault text.now offset }
+{
+    match offset {
+        Offset::Missing => None,
+        Offset::Bracket(value) | Offset::Parenthesis(value) => value_fault(text, value),
+    }
+}
+
+#[tactic(auto, unfolding(crate::specs::Kinds::operand_fault))]
+fn operand_fault(text: &[u8], operand: Operand) -> Option<AsmRule>
+    ensures { result ≡ operand_fault text.now operand }
+{
+    match operand {
+        Operand::Text { .. } => None,
+        Operand::Address(address) => offset_fault(text, address.offset),
+        Operand::Value(value) => value_fault(text, value),
+    }
+}
+
+/// The lowest rule that the kinds of these operands break.
+pub fn kinds_fault(text: &[u8], operands: &[Operand]) -> Option<AsmRule>
+    ensures { result ≡ kinds_from text.now None operands.now }
+{
+    let mut fault = None;
+    for operand in operands {
+        fault = lowest(fault, operand_fault(text, *operand));
+    }
+    fault
+}

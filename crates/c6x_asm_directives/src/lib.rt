@@ -1,0 +1,17 @@
+//! The directives of assembly text.
+#![tactic(auto)]
+
+mod directive;
+mod directives;
+mod fields;
+mod keyword;
+mod kinds;
+mod mark;
+mod names;
+
+pub use directive::Directive;
+pub use directives::{directive_of, quoted};
+pub use keyword::Keyword;
+pub use kinds::{kinds_fault, lowest};
+pub use mark::Mark;
+pub use names::keyword_of;

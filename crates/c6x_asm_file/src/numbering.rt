@@ -1,0 +1,38 @@
+ghost use Rattle.std.specs.Prelude.{◌≡◌, ◌+◌, ◌<◌, ◌≤◌, ◌^◌, count_by, length, IfOk};
+ghost use Rattle.c6x_asm_tables.specs.Symbols.{is_local};
+ghost use Rattle.c6x_asm_file.specs.Numbers.{symbol_numbers};
+
+use c6x_asm_object::Symbol;
+use c6x_asm_tables::is_local;
+use std::alloc::{AllocError, Global};
+
+fn count_local(symbols: &[Symbol]) -> usize
+    ensures is { result ≡ count_by is_local symbols.now }
+    ensures few { result ≤ length symbols.now }
+{
+    symbols.iter().filter(|symbol| is_local(**symbol)).count()
+}
+
+/// The number of each symbol in the table of an object with so many sections.
+#[tactic(auto, unfolding(crate::specs::Numbers::symbol_numbers))]
+pub fn symbol_numbers(
+    alloc: Global,
+    sections: usize,
+    symbols: &[Symbol],
+) -> Result<Vec<usize>, AllocError>
+    requires { sections < 2 ^ 32 }
+    ensures { IfOk result (λ numbers. numbers.items ≡ symbol_numbers sections symbols.now) }
+{
+    let mut numbers = Vec::new(alloc);
+    let mut local = 1 + sections;
+    let mut other = 1 + sections + count_local(symbols);
+    for symbol in symbols {
+        let is = is_local(*symbol);
+        numbers
+            .push(if is { local } else { other })
+            .map_err(AllocError::from)?;
+        local = if is { local + 1 } else { local };
+        other = if is { other } else { other + 1 };
+    }
+    Ok(numbers)
+}

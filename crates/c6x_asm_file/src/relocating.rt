@@ -1,0 +1,47 @@
+ghost use Rattle.std.specs.Prelude.{◌≡◌, ◌<◌, ◌^◌, IfOk, OnOk};
+ghost use Rattle.c6x_asm_file.specs.Relocations.{number_at, info_of, relocation_behind, relocation_table};
+
+use crate::kinds::kind_number;
+use c6x_asm_object::{Entry, Items};
+use std::alloc::{AllocError, Global};
+
+fn number_at(numbers: &[usize], symbol: Option<usize>) -> usize
+    ensures { result ≡ number_at numbers.now symbol }
+{
+    match symbol {
+        None => 0,
+        Some(i) => { if i < numbers.len() { numbers[i] } else { 0 } }
+    }
+}
+
+fn info_of(symbol: usize, kind: u8) -> u32
+    ensures { result ≡ info_of symbol kind }
+{
+    (symbol % 16_777_216) as u32 * 256 + u32::from(kind)
+}
+
+#[tactic(auto, unfolding(crate::specs::Relocations::relocation_behind))]
+fn put_relocation(numbers: &[usize], bytes: &mut Items<u8>, entry: Entry) -> Result<(), AllocError>
+    ensures { OnOk result (bytes.new ≡ relocation_behind numbers.now bytes.old entry) }
+{
+    let info = info_of(number_at(numbers, entry.symbol), kind_number(entry.kind));
+    bytes.extend(&entry.offset.to_le_bytes())?;
+    bytes.extend(&info.to_le_bytes())?;
+    bytes.extend(&entry.addend.to_le_bytes())
+}
+
+/// The relocation table of a section; `numbers` are those of the symbols.
+#[tactic(auto, unfolding(crate::specs::Relocations::relocation_table))]
+pub fn relocation_table(
+    alloc: Global,
+    numbers: &[usize],
+    entries: &[Entry],
+) -> Result<Items<u8>, AllocError>
+    ensures { IfOk result (λ bytes. bytes ≡ relocation_table numbers.now entries.now) }
+{
+    let mut bytes = Items::new(alloc);
+    for entry in entries {
+        put_relocation(numbers, &mut bytes, *entry)?;
+    }
+    Ok(bytes)
+}

@@ -1,0 +1,4 @@
+pub mod Grammar
+pub mod Lexemes
+pub mod Digits
+pub mod Operands

@@ -1,0 +1,14 @@
+use crate::word::Word;
+use c6x_instr::Cond;
+
+/// What stands before the operands of an instruction or a directive.
+#[derive(Debug, Clone, Copy, PartialEq, Eq)]
+pub struct Head {
+    /// `||` stands before it.
+    pub chained: bool,
+    pub condition: Cond,
+    /// The mnemonic or the directive.
+    pub word: Word,
+    /// None for a directive and for NOP.
+    pub unit: Option<Word>,
+}

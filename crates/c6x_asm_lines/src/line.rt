@@ -1,0 +1,18 @@
+use crate::head::Head;
+use crate::operand::Operand;
+use crate::word::Word;
+use c6x_base::Row;
+
+/// An instruction or a directive.
+#[derive(Debug, Drop)]
+pub struct Statement {
+    pub head: Head,
+    pub operands: Row<Operand>,
+}
+
+/// A line: a label, then an instruction or a directive, each if there is one.
+#[derive(Debug, Drop)]
+pub struct Line {
+    pub label: Option<Word>,
+    pub statement: Option<Statement>,
+}

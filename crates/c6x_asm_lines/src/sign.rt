@@ -1,0 +1,17 @@
+/// A sign of the text.
+#[derive(Debug, Clone, Copy, PartialEq, Eq)]
+pub enum Sign {
+    Colon,
+    Comma,
+    LeftBracket,
+    RightBracket,
+    LeftParenthesis,
+    RightParenthesis,
+    Star,
+    Plus,
+    Minus,
+    Bang,
+    Percent,
+    /// `||`
+    Bars,
+}

@@ -1,0 +1,9 @@
+/// The signs before or behind the base of an address.
+#[derive(Debug, Clone, Copy, PartialEq, Eq)]
+pub enum Step {
+    Still,
+    Plus,
+    Minus,
+    PlusPlus,
+    MinusMinus,
+}

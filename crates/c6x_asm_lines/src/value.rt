@@ -1,0 +1,10 @@
+use crate::plain::Plain;
+use crate::word::Word;
+
+/// An operand that is no address and no text.
+#[derive(Debug, Clone, Copy, PartialEq, Eq)]
+pub enum Value {
+    Plain(Plain),
+    /// `%kind(operand)`, or `%kind` alone.
+    Kind { kind: Word, inner: Option<Plain> },
+}

@@ -1,0 +1,25 @@
+-- The names of a text, in order of first appearance.
+use Rattle.std.specs.Prelude.{ℕ, Bool, true, false, List, [], ◌∷◌, ◌++◌, length, slice_index_or, slice_set, Option, Some, None, position}
+use Rattle.std.specs.Str.{bytes_eq}
+use Rattle.c6x_asm_lines.specs.declared.word.Word.{Word}
+use Rattle.c6x_asm_directives.specs.Directives.{quoted}
+use Rattle.c6x_asm_object.specs.declared.spot.Spot.{Spot}
+use Rattle.c6x_asm_object.specs.declared.symbol.Symbol.{Symbol}
+
+abbrev pub symbol_name : List ℕ → Symbol → List ℕ
+symbol_name text s = quoted text s.at s.len
+
+-- the place of a name among those so far
+unfoldable pub symbol_at : List ℕ → List Symbol → List ℕ → Option ℕ
+symbol_at text symbols name = position (λ s. bytes_eq (symbol_name text s) name) symbols
+
+unfoldable pub fresh : Word → Symbol
+fresh word = record { at = word.at; len = word.len; spot = None; global = false; weak = false; hidden = false }
+
+abbrev pub or_added : Option ℕ → List Symbol → Word → List Symbol × ℕ
+or_added (Some i) symbols word = (symbols, i)
+or_added None symbols word = (symbols ++ fresh word ∷ [], length symbols)
+
+-- the names with this one, and its place
+unfoldable pub interned : List ℕ → List Symbol → Word → List Symbol × ℕ
+interned text symbols word = or_added (symbol_at text symbols (quoted text word.at word.len)) symbols word

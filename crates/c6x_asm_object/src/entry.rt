@@ -1,0 +1,12 @@
+use c6x_reloc::RelocKind;
+
+/// A relocation of a section.
+#[derive(Debug, Clone, Copy, PartialEq, Eq)]
+pub struct Entry {
+    pub offset: u32,
+    pub kind: RelocKind,
+    /// The symbol's place among the names of the text; None for the null symbol.
+    pub symbol: Option<usize>,
+    /// The addend modulo 2^32.
+    pub addend: u32,
+}

@@ -1,0 +1,12 @@
+/// What a section holds, by its name.
+#[derive(Debug, Clone, Copy, PartialEq, Eq)]
+pub enum PartKind {
+    /// Code.
+    Text,
+    /// Data that is not written.
+    Constant,
+    /// Data that is zero and has no bytes in the file.
+    Zero,
+    /// Data.
+    Data,
+}

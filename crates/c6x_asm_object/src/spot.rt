@@ -1,0 +1,7 @@
+/// Where a symbol is: its section's number, its value and its size.
+#[derive(Debug, Clone, Copy, PartialEq, Eq)]
+pub struct Spot {
+    pub section: usize,
+    pub value: u32,
+    pub size: u32,
+}

@@ -1,0 +1,33 @@
+//! The words and operands of instructions in assembly text, and the instruction of a line.
+#![tactic(auto)]
+
+mod addresses;
+mod combine;
+mod made;
+mod mnemonic;
+mod names;
+mod numbers;
+mod operands;
+mod path;
+mod place;
+mod range;
+mod relocation;
+mod rule;
+mod unit;
+
+pub use addresses::place_of;
+pub use combine::{both, lower};
+pub use made::{Field, Made};
+pub use mnemonic::Mnemonic;
+pub use names::{kind_of, mnemonic_name, mnemonic_of, unit_of};
+pub use numbers::number_in;
+pub use operands::{
+    bytes_of, constant_operand, field_operand, register_on, register_operand, same_side,
+    value_field,
+};
+pub use path::Path;
+pub use place::Place;
+pub use range::Range;
+pub use relocation::Relocation;
+pub use rule::AsmRule;
+pub use unit::Unit;

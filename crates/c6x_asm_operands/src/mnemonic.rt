@@ -1,0 +1,14 @@
+use c6x_instr::{Access, Arith, MoveKind};
+
+/// The mnemonic of an instruction.
+#[derive(Debug, Clone, Copy, PartialEq, Eq)]
+pub enum Mnemonic {
+    Two(Arith),
+    Move(MoveKind),
+    B,
+    Bnop,
+    Callp,
+    AddKpc,
+    Nop,
+    Memory(Access),
+}

@@ -1,0 +1,248 @@
+ghost use Rattle.std.specs.Prelude.{◌≡◌, ◌^◌, ◌<◌, ◌≤◌, IfOk};
+ghost use Rattle.c6x_reloc.specs.Table.{row_of};
+ghost use Rattle.c6x_asm_operands.specs.Operands.{bytes_of, same_side, register_on, register_operand, constant_operand, addend_of, symbol_field, same_field, is_index, index_field, inner_field, named_field, value_field, field_operand};
+
+use crate::made::Field;
+use crate::names::kind_of;
+use crate::numbers::number_in;
+use crate::range::Range;
+use crate::relocation::Relocation;
+use crate::rule::AsmRule;
+use c6x_asm_lines::{Number, Operand, Plain, Register, Value, Word};
+use c6x_base::Side;
+use c6x_reloc::{RelocKind, width};
+
+const ADDENDS: Range = Range {
+    below: 2_147_483_648,
+    least: 0,
+    most: 2_147_483_647,
+    step: 1,
+    modulus: 4_294_967_296,
+};
+
+/// The bytes of a word of the text.
+#[tactic(auto, unfolding(crate::specs::Operands::bytes_of))]
+pub fn bytes_of<'t>(text: &'t [u8], word: Word) -> &'t [u8]
+    ensures { result.now ≡ bytes_of text.now word }
+{
+    let at = word.at as usize;
+    let len = word.len as usize;
+    if at + len <= text.len() {
+        &text[at..at + len]
+    } else {
+        &[]
+    }
+}
+
+pub fn same_side(a: Side, b: Side) -> bool
+    ensures { result ≡ same_side a b }
+{
+    match (a, b) {
+        (Side::A, Side::A) | (Side::B, Side::B) => true,
+        _ => false,
+    }
+}
+
+/// The number of a register, where it is on this side.
+pub fn register_on(side: Side, register: Register) -> Result<u8, AsmRule>
+    ensures { result ≡ register_on side register }
+{
+    if same_side(register.side, side) {
+        Ok(register.number)
+    } else {
+        Err(AsmRule::Operand)
+    }
+}
+
+/// The number of the register that an operand is, on this side.
+#[tactic(auto, unfolding(crate::specs::Operands::register_operand))]
+pub fn register_operand(side: Side, operand: Operand) -> Result<u8, AsmRule>
+    ensures { result ≡ register_operand side operand }
+{
+    match operand {
+        Operand::Value(Value::Plain(Plain::Register(register))) => register_on(side, register),
+        _ => Err(AsmRule::Operand),
+    }
+}
+
+/// The bits of the number that an operand is.
+#[tactic(auto, unfolding(crate::specs::Operands::constant_operand))]
+pub fn constant_operand(range: Range, operand: Operand) -> Result<u32, AsmRule>
+    requires step { 1 ≤ range.step }
+    requires some { 1 ≤ range.modulus }
+    requires few { range.modulus ≤ 2 ^ 32 }
+    ensures is { result ≡ constant_operand range operand }
+    ensures fits { range.most < range.modulus → range.below < range.modulus → IfOk result (λ bits. bits < range.modulus) }
+    ensures most { range.below ≡ 0 → IfOk result (λ bits. bits ≤ range.most) }
+{
+    match operand {
+        Operand::Value(Value::Plain(Plain::Number(number))) => number_in(range, number),
+        _ => Err(AsmRule::Operand),
+    }
+}
+
+fn addend_of(addend: Option<Number>) -> Result<u32, AsmRule>
+    ensures { result ≡ addend_of addend }
+{
+    match addend {
+        None => Ok(0),
+        Some(number) => number_in(ADDENDS, number),
+    }
+}
+
+#[tactic(auto, unfolding(crate::specs::Operands::symbol_field))]
+fn symbol_field(kind: RelocKind, name: Word, addend: Option<Number>) -> Result<Field, AsmRule>
+    ensures is { result ≡ symbol_field kind name addend }
+    ensures zero { IfOk result (λ field. field.bits ≡ 0) }
+{
+    let addend = addend_of(addend)?;
+    let relocation = Relocation {
+        kind,
+        symbol: Some(name),
+        addend,
+    };
+    Ok(Field {
+        bits: 0,
+        relocation: Some(relocation),
+    })
+}
+
+#[tactic(auto, unfolding(c6x_reloc::specs::Table::row_of))]
+fn low_of(kind: RelocKind) -> u32
+    ensures { result ≡ (row_of kind).low }
+{
+    match kind {
+        RelocKind::PCR_S21
+        | RelocKind::ABS_S16
+        | RelocKind::ABS_L16
+        | RelocKind::ABS_H16
+        | RelocKind::SBR_S16
+        | RelocKind::SBR_L16_B
+        | RelocKind::SBR_L16_H
+        | RelocKind::SBR_L16_W
+        | RelocKind::SBR_H16_B
+        | RelocKind::SBR_H16_H
+        | RelocKind::SBR_H16_W
+        | RelocKind::SBR_GOT_L16_W
+        | RelocKind::SBR_GOT_H16_W => 7,
+        RelocKind::PCR_S12 | RelocKind::PCR_S7 => 16,
+        RelocKind::SBR_U15_B
+        | RelocKind::SBR_U15_H
+        | RelocKind::SBR_U15_W
+        | RelocKind::SBR_GOT_U15_W
+        | RelocKind::DSBT_INDEX => 8,
+        _ => 0,
+    }
+}
+
+fn same_field(kind: RelocKind, other: RelocKind) -> bool
+    ensures { result ≡ same_field kind other }
+{
+    low_of(kind) == low_of(other) && width(kind) == width(other)
+}
+
+fn is_index(kind: RelocKind) -> bool
+    ensures { result ≡ is_index kind }
+{
+    matches!(kind, RelocKind::DSBT_INDEX)
+}
+
+fn index_field(kind: RelocKind) -> Result<Field, AsmRule>
+    ensures is { result ≡ index_field kind }
+    ensures zero { IfOk result (λ field. field.bits ≡ 0) }
+{
+    if is_index(kind) {
+        let relocation = Relocation {
+            kind,
+            symbol: None,
+            addend: 0,
+        };
+        Ok(Field {
+            bits: 0,
+            relocation: Some(relocation),
+        })
+    } else {
+        Err(AsmRule::Syntax)
+    }
+}
+
+fn inner_field(kind: RelocKind, inner: Option<Plain>) -> Result<Field, AsmRule>
+    ensures is { result ≡ inner_field kind inner }
+    ensures zero { IfOk result (λ field. field.bits ≡ 0) }
+{
+    match inner {
+        None => index_field(kind),
+        Some(Plain::Symbol { name, addend }) => symbol_field(kind, name, addend),
+        Some(_) => Err(AsmRule::Operand),
+    }
+}
+
+fn named_field(
+    default: RelocKind,
+    kind: Option<RelocKind>,
+    inner: Option<Plain>,
+) -> Result<Field, AsmRule>
+    ensures is { result ≡ named_field default kind inner }
+    ensures zero { IfOk result (λ field. field.bits ≡ 0) }
+{
+    match kind {
+        None => Err(AsmRule::UnknownWord),
+        Some(kind) => {
+            if same_field(kind, default) {
+                inner_field(kind, inner)
+            } else {
+                Err(AsmRule::Operand)
+            }
+        }
+    }
+}
+
+/// The bits of a number, or the relocation of an expression.
+#[tactic(auto, unfolding(crate::specs::Operands::value_field))]
+pub fn value_field(
+    text: &[u8],
+    default: RelocKind,
+    range: Range,
+    value: Value,
+) -> Result<Field, AsmRule>
+    requires step { 1 ≤ range.step }
+    requires some { 1 ≤ range.modulus }
+    requires few { range.modulus ≤ 2 ^ 32 }
+    ensures is { result ≡ value_field text.now default range value }
+    ensures fits { range.most < range.modulus → range.below < range.modulus → IfOk result (λ field. field.bits < range.modulus) }
+    ensures most { range.below ≡ 0 → IfOk result (λ field. field.bits ≤ range.most) }
+{
+    match value {
+        Value::Plain(Plain::Number(number)) => {
+            let bits = number_in(range, number)?;
+            Ok(Field {
+                bits,
+                relocation: None,
+            })
+        }
+        Value::Plain(Plain::Symbol { name, addend }) => symbol_field(default, name, addend),
+        Value::Plain(Plain::Register(_)) => Err(AsmRule::Operand),
+        Value::Kind { kind, inner } => named_field(default, kind_of(bytes_of(text, kind)), inner),
+    }
+}
+
+/// The same of an operand.
+#[tactic(auto, unfolding(crate::specs::Operands::field_operand))]
+pub fn field_operand(
+    text: &[u8],
+    default: RelocKind,
+    range: Range,
+    operand: Operand,
+) -> Result<Field, AsmRule>
+    requires step { 1 ≤ range.step }
+    requires some { 1 ≤ range.modulus }
+    requires few { range.modulus ≤ 2 ^ 32 }
+    ensures is { result ≡ field_operand text.now default range operand }
+    ensures fits { range.most < range.modulus → range.below < range.modulus → IfOk result (λ field. field.bits < range.modulus) }
+    ensures most { range.below ≡ 0 → IfOk result (λ field. field.bits ≤ range.most) }
+{
+    match operand {
+        Operand::Value(value) => value_field(text, default, range, value),
+        _ => Err(AsmRule::Operand),
+    }
+}

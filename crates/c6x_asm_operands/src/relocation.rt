@@ -1,0 +1,12 @@
+use c6x_asm_lines::Word;
+use c6x_reloc::RelocKind;
+
+/// A relocation that an expression makes.
+#[derive(Debug, Clone, Copy, PartialEq, Eq)]
+pub struct Relocation {
+    pub kind: RelocKind,
+    /// None for the null symbol.
+    pub symbol: Option<Word>,
+    /// The addend modulo 2^32.
+    pub addend: u32,
+}

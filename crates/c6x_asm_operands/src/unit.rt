@@ -1,0 +1,11 @@
+use crate::path::Path;
+use c6x_base::Side;
+use c6x_instr::UnitKind;
+
+/// A functional unit as a line names it.
+#[derive(Debug, Clone, Copy, PartialEq, Eq)]
+pub struct Unit {
+    pub kind: UnitKind,
+    pub side: Side,
+    pub path: Path,
+}

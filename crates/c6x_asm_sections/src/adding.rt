@@ -1,0 +1,129 @@
+ghost use Rattle.std.specs.Prelude.{◌≡◌, ◌+◌, ◌<◌, ◌≤◌, [], length, codes, vec_len, OnOk};
+ghost use Rattle.c6x_asm_sections.specs.Sections.{Built, added, has_entries, parts_added, rela_added, relas_added, relas_len};
+ghost use Rattle.c6x_asm_sections.specs.Built.{built};
+
+use crate::headers::{TableKind, part_section, table_section};
+use c6x_asm_directives::quoted;
+use c6x_asm_file::relocation_table;
+use c6x_asm_object::{Items, Part};
+use c6x_elf::Section;
+use std::alloc::{AllocError, Global};
+
+/// One more section, whose name goes behind the others.
+#[tactic(auto, unfolding(crate::specs::Sections::added))]
+pub fn add(
+    front: &[u8],
+    name: &[u8],
+    section: Section,
+    sections: &mut Vec<Section>,
+    names: &mut Items<u8>,
+) -> Result<(), AllocError>
+    ensures { OnOk result (built sections.new.items names.new ≡ added front.now name.now section (built sections.old.items names.old)) }
+{
+    let at = (names.as_slice().len() % 4_294_967_296) as u32;
+    sections
+        .push(Section {
+            name: at,
+            ..section
+        })
+        .map_err(AllocError::from)?;
+    names.extend(front)?;
+    names.extend(name)?;
+    names.push(0)
+}
+
+/// The named sections.
+pub fn add_parts(
+    alloc: Global,
+    text: &[u8],
+    parts: &[Part],
+    sections: &mut Vec<Section>,
+    names: &mut Items<u8>,
+) -> Result<(), AllocError>
+    ensures { OnOk result (built sections.new.items names.new ≡ parts_added text.now (built sections.old.items names.old) parts.now) }
+{
+    for part in parts {
+        let section = part_section(alloc, part)?;
+        add(
+            &[],
+            quoted(text, part.at, part.len),
+            section,
+            sections,
+            names,
+        )?;
+    }
+    Ok(())
+}
+
+/// Whether a section has relocations.
+pub fn has_entries(part: &Part) -> bool
+    ensures { result ≡ has_entries part.now.entries }
+{
+    !part.entries.as_slice().is_empty()
+}
+
+#[tactic(auto, unfolding(crate::specs::Sections::rela_added))]
+fn add_rela(
+    alloc: Global,
+    text: &[u8],
+    numbers: &[usize],
+    symtab: usize,
+    number: usize,
+    part: &Part,
+    sections: &mut Vec<Section>,
+    names: &mut Items<u8>,
+) -> Result<(), AllocError>
+    ensures { OnOk result (built sections.new.items names.new ≡ rela_added text.now numbers.now symtab number part.now (built sections.old.items names.old)) }
+{
+    if !has_entries(part) {
+        return Ok(());
+    }
+    let bytes = relocation_table(alloc, numbers, part.entries.as_slice())?;
+    let table = TableKind {
+        kind: 4,
+        link: symtab,
+        info: number,
+        align: 4,
+        entsize: 12,
+    };
+    let section = table_section(alloc, table, bytes.as_slice())?;
+    add(
+        b".rela",
+        quoted(text, part.at, part.len),
+        section,
+        sections,
+        names,
+    )
+}
+
+/// The relocation tables of the named sections.
+pub fn add_relas(
+    alloc: Global,
+    text: &[u8],
+    numbers: &[usize],
+    symtab: usize,
+    parts: &[Part],
+    sections: &mut Vec<Section>,
+    names: &mut Items<u8>,
+) -> Result<(), AllocError>
+    ensures { OnOk result (built sections.new.items names.new ≡ relas_added text.now numbers.now symtab 1 (built sections.old.items names.old) parts.now) }
+{
+    let mut number = 1;
+    for part in parts {
+        add_rela(alloc, text, numbers, symtab, number, part, sections, names)?;
+        number += 1;
+    }
+    Ok(())
+}
+
+/// How many sections have relocations.
+pub fn relas_len(parts: &[Part]) -> usize
+    ensures is { result ≡ relas_len 0 parts.now }
+    ensures few { result ≤ length parts.now }
+{
+    let mut count = 0;
+    for part in parts {
+        count = if has_entries(part) { count + 1 } else { count };
+    }
+    count
+}

@@ -1,0 +1,77 @@
+ghost use Rattle.std.specs.Prelude.{◌≡◌, ◌^◌, ◌<◌, length, IfOk};
+ghost use Rattle.c6x_asm_sections.specs.Sections.{part_type, part_flags, part_section, table_section};
+
+use c6x_asm_object::{Part, PartKind};
+use c6x_base::Bytes;
+use c6x_elf::Section;
+use std::alloc::{AllocError, Global};
+
+fn part_type(kind: PartKind) -> u32
+    ensures { result ≡ part_type kind }
+{
+    match kind {
+        PartKind::Zero => 8,
+        _ => 1,
+    }
+}
+
+fn part_flags(kind: PartKind) -> u32
+    ensures { result ≡ part_flags kind }
+{
+    match kind {
+        PartKind::Text => 6,
+        PartKind::Constant => 2,
+        PartKind::Zero | PartKind::Data => 3,
+    }
+}
+
+/// The section of a part, without its name.
+#[tactic(auto, unfolding(crate::specs::Sections::part_section))]
+pub fn part_section(alloc: Global, part: &Part) -> Result<Section, AllocError>
+    ensures { IfOk result (λ section. section ≡ part_section part.now) }
+{
+    let bytes = Bytes::from_bytes(alloc, part.bytes.as_slice())?;
+    Ok(Section {
+        name: 0,
+        kind: part_type(part.kind),
+        flags: part_flags(part.kind),
+        addr: 0,
+        size: part.size,
+        link: 0,
+        info: 0,
+        align: part.align,
+        entsize: 0,
+        bytes,
+    })
+}
+
+/// What a table's header says beside its length.
+#[derive(Clone, Copy)]
+pub struct TableKind {
+    pub kind: u32,
+    pub link: usize,
+    pub info: usize,
+    pub align: u32,
+    pub entsize: u32,
+}
+
+/// The section of a table, without its name.
+#[tactic(auto, unfolding(crate::specs::Sections::table_section))]
+pub fn table_section(alloc: Global, table: TableKind, bytes: &[u8]) -> Result<Section, AllocError>
+    ensures { IfOk result (λ section. section ≡ table_section table.kind table.link table.info table.align table.entsize bytes.now) }
+{
+    let size = (bytes.len() % 4_294_967_296) as u32;
+    let bytes = Bytes::from_bytes(alloc, bytes)?;
+    Ok(Section {
+        name: 0,
+        kind: table.kind,
+        flags: 0,
+        addr: 0,
+        size,
+        link: (table.link % 4_294_967_296) as u32,
+        info: (table.info % 4_294_967_296) as u32,
+        align: table.align,
+        entsize: table.entsize,
+        bytes,
+    })
+}

@@ -1,0 +1,4 @@
+pub mod States
+pub mod Adding
+pub mod Instructing
+pub mod Stepping

@@ -1,0 +1,110 @@
+-- The sections and symbols that the lines so far make.
+use Rattle.std.specs.Prelude.{ℕ, ◌+◌, ◌<◌, true, false, List, [], ◌∷◌, ◌++◌, length, slice_index_or, slice_set, Option, Some, None, IfSome, vec_len, position}
+use Rattle.std.specs.Str.{bytes_eq}
+use Rattle.c6x_asm_lines.specs.declared.word.Word.{Word}
+use Rattle.std.specs.Prelude.{◌≡◌, Result, Ok, Err}
+use Rattle.c6x_asm_operands.specs.declared.rule.AsmRule.{AsmRule}
+use Rattle.c6x_asm_operands.specs.declared.rule.AsmRule.TheVariants.{DuplicateLabel, NoSection}
+use Rattle.c6x_asm_operands.specs.declared.relocation.Relocation.{Relocation}
+use Rattle.c6x_asm_directives.specs.declared.mark.Mark.{Mark}
+use Rattle.c6x_asm_directives.specs.declared.mark.Mark.TheVariants.{Global, Weak, Hidden}
+use Rattle.c6x_asm_directives.specs.Directives.{quoted}
+use Rattle.c6x_asm_directives.specs.Kinds.{lowest}
+use Rattle.c6x_asm_object.specs.declared.entry.Entry.{Entry}
+use Rattle.c6x_asm_object.specs.declared.object.Object.{Object}
+use Rattle.c6x_asm_object.specs.declared.part.Part.{Part}
+use Rattle.c6x_asm_object.specs.declared.spot.Spot.{Spot}
+use Rattle.c6x_asm_object.specs.declared.symbol.Symbol.{Symbol}
+use Rattle.c6x_asm_object.specs.Kinds.{kind_named}
+use Rattle.c6x_asm_object.specs.Parts.{empty_part, part_of}
+use Rattle.c6x_asm_object.specs.Symbols.{symbol_at, interned}
+
+pub record State : Type 0 where
+  pub parts : List Part
+  pub now : Option ℕ
+  pub symbols : List Symbol
+
+abbrev pub state_of : Object → State
+state_of o = record { parts = o.parts.items; now = o.current; symbols = o.symbols.items }
+
+-- lines go to a section that there is
+abbrev pub IsSound : Object → Type 0
+IsSound o = IfSome o.current (λ i. i < vec_len o.parts)
+
+unfoldable pub no_symbol : Symbol
+no_symbol = record { at = 0; len = 0; spot = None; global = false; weak = false; hidden = false }
+
+abbrev pub symbol_of : List Symbol → ℕ → Symbol
+symbol_of symbols i = slice_index_or symbols i no_symbol
+
+abbrev pub placed_at : Spot → Symbol → Symbol
+placed_at spot s = record s { spot = Some spot }
+
+-- what a mark says of a symbol
+abbrev pub marked_by : Mark → Symbol → Symbol
+marked_by Global s = record s { global = true }
+marked_by Weak s = record s { weak = true }
+marked_by Hidden s = record s { hidden = true }
+
+abbrev pub symbol_changed : List Symbol → ℕ → (Symbol → Symbol) → List Symbol
+symbol_changed symbols i change = slice_set symbols i (change (symbol_of symbols i))
+
+-- a name, which is added if it is new, changed
+unfoldable pub name_changed : List ℕ → List Symbol → Word → (Symbol → Symbol) → List Symbol
+name_changed text symbols word change = symbol_changed (interned text symbols word).0 (interned text symbols word).1 change
+
+abbrev pub spot_of : List Symbol → Option ℕ → Option Spot
+spot_of symbols None = None
+spot_of symbols (Some i) = (symbol_of symbols i).spot
+
+abbrev pub fault_of_spot : Option Spot → Option AsmRule
+fault_of_spot None = None
+fault_of_spot (Some spot) = Some DuplicateLabel
+
+-- the name has a place already
+unfoldable pub placed_fault : List ℕ → List Symbol → Word → Option AsmRule
+placed_fault text symbols word = fault_of_spot (spot_of symbols (symbol_at text symbols (quoted text word.at word.len)))
+
+abbrev pub section_fault : Option ℕ → Option AsmRule
+section_fault None = Some NoSection
+section_fault (Some i) = None
+
+-- the place of a label
+abbrev pub label_spot : List Part → Option ℕ → Spot
+label_spot parts None = record { section = 0; value = 0; size = 0 }
+label_spot parts (Some i) = record { section = i + 1; value = (part_of parts i).size; size = 0 }
+
+unfoldable pub label_fault : List ℕ → State → Word → Option AsmRule
+label_fault text s word = lowest (placed_fault text s.symbols word) (section_fault s.now)
+
+unfoldable pub labelled : List ℕ → State → Word → State
+labelled text s word = record s { symbols = name_changed text s.symbols word (placed_at (label_spot s.parts s.now)) }
+
+-- the number of the section with this name
+unfoldable pub part_at : List ℕ → List Part → List ℕ → Option ℕ
+part_at text parts name = position (λ p. bytes_eq (quoted text p.at p.len) name) parts
+
+abbrev pub entered_or_new : List ℕ → ℕ → ℕ → State → Option ℕ → State
+entered_or_new text at len s (Some i) = record s { now = Some i }
+entered_or_new text at len s None = record s { parts = s.parts ++ empty_part at len (kind_named (quoted text at len)) ∷ []; now = Some (length s.parts) }
+
+-- the section with this name, which is added if it is new
+unfoldable pub entered : List ℕ → ℕ → ℕ → State → State
+entered text at len s = entered_or_new text at len s (part_at text s.parts (quoted text at len))
+
+abbrev pub entry_with : Relocation → ℕ → Option ℕ → Entry
+entry_with r offset symbol = record { offset = offset; kind = r.kind; symbol = symbol; addend = r.addend }
+
+abbrev pub named_entry : List ℕ → List Symbol → Relocation → ℕ → Option Word → List Symbol × Option Entry
+named_entry text symbols r offset None = (symbols, Some (entry_with r offset None))
+named_entry text symbols r offset (Some word) = ((interned text symbols word).0, Some (entry_with r offset (Some (interned text symbols word).1)))
+
+-- the entry of a relocation at an offset, and the names with its symbol
+unfoldable pub relocated : List ℕ → List Symbol → ℕ → Option Relocation → List Symbol × Option Entry
+relocated text symbols offset None = (symbols, None)
+relocated text symbols offset (Some r) = named_entry text symbols r offset r.symbol
+
+-- the object is as told, or the rule that the line breaks is
+abbrev pub Becomes : Result (Unit {0}) AsmRule → Object → Result State AsmRule → Type 0
+Becomes (Ok done) o told = told ≡ Ok (state_of o)
+Becomes (Err rule) o told = told ≡ Err rule

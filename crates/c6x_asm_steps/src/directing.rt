@@ -1,0 +1,179 @@
+ghost use Rattle.std.specs.Prelude.{◌≡◌, ◌+◌, ◌<◌, ◌≤◌, nat_le, IfOk, vec_len, length};
+ghost use Rattle.c6x_asm_object.specs.Parts.{part_of, padding};
+ghost use Rattle.c6x_asm_steps.specs.States.{State, state_of, IsSound, Becomes, placed_fault};
+ghost use Rattle.c6x_asm_steps.specs.Adding.{with_field, with_fields, with_space, with_alignment, given_place, common_section, applied};
+ghost use Rattle.c6x_asm_directives.specs.Bounds.{FitsDirective};
+
+use crate::entering::enter;
+use crate::marking::{mark, place, placed_fault};
+use crate::relocating::relocate;
+use c6x_asm_directives::Directive;
+use c6x_asm_lines::Word;
+use c6x_asm_object::{Object, Spot, add_align, add_number, add_zeros, padding};
+use c6x_asm_operands::{AsmRule, Field};
+use std::alloc::{AllocError, Global};
+
+/// Whether a section of this size may grow by so many bytes.
+pub fn has_room(size: u32, count: u32) -> bool
+    ensures { result ≡ nat_le (size + count) 1048576 }
+{
+    u64::from(size) + u64::from(count) <= 1_048_576
+}
+
+#[tactic(auto, unfolding(crate::specs::Adding::with_field), using(std::proofs::lemmas::List::get_or_default))]
+fn add_field(
+    text: &[u8],
+    object: &mut Object,
+    i: usize,
+    size: u32,
+    field: Field,
+) -> Result<Result<(), AsmRule>, AllocError>
+    requires there { i < vec_len object.old.parts }
+    requires few { size ≤ 4 }
+    ensures is { IfOk result (λ done. Becomes done object.new (with_field text.now i size (state_of object.old) field)) }
+    ensures parts { IfOk result (λ done. vec_len object.new.parts ≡ vec_len object.old.parts) }
+    ensures current { object.new.current ≡ object.old.current }
+{
+    let offset = object.parts[i].size;
+    if !has_room(offset, size) {
+        return Ok(Err(AsmRule::Large));
+    }
+    let entry = relocate(text, &mut object.symbols, offset, field.relocation)?;
+    add_number(&mut object.parts, i, size, field.bits, entry)?;
+    Ok(Ok(()))
+}
+
+fn add_fields(
+    text: &[u8],
+    object: &mut Object,
+    i: usize,
+    size: u32,
+    fields: &[Field],
+) -> Result<Result<(), AsmRule>, AllocError>
+    requires there { i < vec_len object.old.parts }
+    requires few { size ≤ 4 }
+    ensures is { IfOk result (λ done. Becomes done object.new (with_fields text.now i size (state_of object.old) fields.now)) }
+    ensures parts { IfOk result (λ done. vec_len object.new.parts ≡ vec_len object.old.parts) }
+    ensures current { object.new.current ≡ object.old.current }
+{
+    for field in fields {
+        if let Err(rule) = add_field(text, object, i, size, *field)? {
+            return Ok(Err(rule));
+        }
+    }
+    Ok(Ok(()))
+}
+
+#[tactic(auto, using(std::proofs::lemmas::List::get_or_default))]
+fn add_space(object: &mut Object, i: usize, count: u32) -> Result<Result<(), AsmRule>, AllocError>
+    requires there { i < vec_len object.old.parts }
+    ensures is { IfOk result (λ done. Becomes done object.new (with_space count (state_of object.old) i)) }
+    ensures parts { IfOk result (λ done. vec_len object.new.parts ≡ vec_len object.old.parts) }
+    ensures current { object.new.current ≡ object.old.current }
+{
+    let size = object.parts[i].size;
+    if !has_room(size, count) {
+        return Ok(Err(AsmRule::Large));
+    }
+    add_zeros(&mut object.parts, i, count)?;
+    Ok(Ok(()))
+}
+
+#[tactic(auto, using(std::proofs::lemmas::List::get_or_default))]
+fn align_to(object: &mut Object, i: usize, align: u32) -> Result<Result<(), AsmRule>, AllocError>
+    requires there { i < vec_len object.old.parts }
+    requires some { 1 ≤ align }
+    ensures is { IfOk result (λ done. Becomes done object.new (with_alignment align (state_of object.old) i)) }
+    ensures parts { IfOk result (λ done. vec_len object.new.parts ≡ vec_len object.old.parts) }
+    ensures current { object.new.current ≡ object.old.current }
+{
+    let size = object.parts[i].size;
+    if !has_room(size, padding(size, align)) {
+        return Ok(Err(AsmRule::Large));
+    }
+    add_align(&mut object.parts, i, align)?;
+    Ok(Ok(()))
+}
+
+fn give_place(
+    text: &[u8],
+    object: &mut Object,
+    word: Word,
+    spot: Spot,
+) -> Result<Result<(), AsmRule>, AllocError>
+    ensures is { IfOk result (λ done. Becomes done object.new (given_place text.now (state_of object.old) word spot (placed_fault text.now object.old.symbols.items word))) }
+    ensures parts { vec_len object.new.parts ≡ vec_len object.old.parts }
+    ensures current { object.new.current ≡ object.old.current }
+{
+    match placed_fault(text, &object.symbols, word) {
+        Some(rule) => Ok(Err(rule)),
+        None => {
+            place(text, &mut object.symbols, word, spot)?;
+            Ok(Ok(()))
+        }
+    }
+}
+
+fn common_section(near: bool) -> usize
+    ensures { result ≡ common_section near }
+{
+    if near { 0xFF00 } else { 0xFFF2 }
+}
+
+/// What a directive adds, or the rule that it breaks.
+#[tactic(auto, unfolding(crate::specs::Adding::applied))]
+pub fn apply(
+    alloc: Global,
+    text: &[u8],
+    object: &mut Object,
+    directive: &Directive,
+) -> Result<Result<(), AsmRule>, AllocError>
+    requires sound { IsSound object.old }
+    requires fits { FitsDirective directive.now }
+    ensures is { IfOk result (λ done. Becomes done object.new (applied text.now (state_of object.old) directive.now)) }
+    ensures sound { IfOk result (λ done. IsSound object.new) }
+{
+    match directive {
+        Directive::Section { at, len } => {
+            enter(alloc, text, object, *at, *len)?;
+            Ok(Ok(()))
+        }
+        Directive::Numbers { size, fields } => match object.current {
+            None => Ok(Err(AsmRule::NoSection)),
+            Some(i) => add_fields(text, object, i, *size, fields.as_slice()),
+        },
+        Directive::Space(count) => match object.current {
+            None => Ok(Err(AsmRule::NoSection)),
+            Some(i) => add_space(object, i, *count),
+        },
+        Directive::Align(align) => match object.current {
+            None => Ok(Err(AsmRule::NoSection)),
+            Some(i) => align_to(object, i, *align),
+        },
+        Directive::Mark { mark: kind, name } => {
+            mark(text, &mut object.symbols, *name, *kind)?;
+            Ok(Ok(()))
+        }
+        Directive::Common {
+            name,
+            size,
+            align,
+            near,
+        } => {
+            let spot = Spot {
+                section: common_section(*near),
+                value: *align,
+                size: *size,
+            };
+            give_place(text, object, *name, spot)
+        }
+        Directive::Set { name, value } => {
+            let spot = Spot {
+                section: 0xFFF1,
+                value: *value,
+                size: 0,
+            };
+            give_place(text, object, *name, spot)
+        }
+    }
+}

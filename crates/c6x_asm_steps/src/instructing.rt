@@ -1,0 +1,173 @@
+ghost use Rattle.std.specs.Prelude.{◌≡◌, ◌+◌, ◌<◌, ◌≤◌, IfOk, IfSome, vec_len, length};
+ghost use Rattle.c6x_instr.specs.Spelling.{IsValid};
+ghost use Rattle.c6x_asm_object.specs.Parts.{part_of, is_zero};
+ghost use Rattle.c6x_asm_steps.specs.States.{State, state_of, IsSound, Becomes};
+ghost use Rattle.c6x_asm_steps.specs.Instructing.{ends_at, is_behind, chain_fault, place_fault, fails, word_of, with_word, with_made, instruction_fault, instructed};
+
+use crate::directing::has_room;
+use crate::relocating::relocate;
+use c6x_asm_directives::lowest;
+use c6x_asm_instr::instruction_of;
+use c6x_asm_lines::{Head, Operand};
+use c6x_asm_object::{Object, Part, PartKind, Slot, add_instruction};
+use c6x_asm_operands::{AsmRule, Made, lower};
+use c6x_encoding::{encode, is_valid};
+use c6x_instr::{Cond, Instr, Op};
+use std::alloc::AllocError;
+
+fn ends_at(last: Option<u32>, size: u32) -> bool
+    ensures { result ≡ ends_at last size }
+{
+    match last {
+        None => false,
+        Some(last) => last == size,
+    }
+}
+
+#[tactic(auto, using(std::proofs::lemmas::List::get_or_default))]
+fn is_behind(parts: &[Part], now: Option<usize>) -> bool
+    requires { IfSome now (λ i. i < length parts.now) }
+    ensures { result ≡ is_behind parts.now now }
+{
+    match now {
+        None => false,
+        Some(i) => ends_at(parts[i].last, parts[i].size),
+    }
+}
+
+fn chain_fault(chained: bool, behind: bool) -> Option<AsmRule>
+    ensures { result ≡ chain_fault chained behind }
+{
+    if chained && !behind {
+        Some(AsmRule::Syntax)
+    } else {
+        None
+    }
+}
+
+/// Whether a section has no bytes in the file.
+pub fn is_zero(kind: PartKind) -> bool
+    ensures { result ≡ is_zero kind }
+{
+    matches!(kind, PartKind::Zero)
+}
+
+#[tactic(auto, using(std::proofs::lemmas::List::get_or_default))]
+fn place_fault(parts: &[Part], now: Option<usize>) -> Option<AsmRule>
+    requires { IfSome now (λ i. i < length parts.now) }
+    ensures { result ≡ place_fault parts.now now }
+{
+    match now {
+        None => Some(AsmRule::NoSection),
+        Some(i) => {
+            if is_zero(parts[i].kind) || parts[i].size % 4 != 0 {
+                Some(AsmRule::Operand)
+            } else {
+                None
+            }
+        }
+    }
+}
+
+#[tactic(auto, unfolding(crate::specs::Instructing::word_of), using(crate::proofs::Encoding::encoded_valid, crate::proofs::Encoding::encoded_invalid))]
+fn word_of(condition: Cond, op: Op) -> Option<u32>
+    ensures { result ≡ word_of condition op }
+{
+    let instr = Instr {
+        condition,
+        op,
+        chained: false,
+    };
+    if is_valid(&instr) {
+        Some(encode(&instr))
+    } else {
+        None
+    }
+}
+
+#[tactic(auto, using(std::proofs::lemmas::List::get_or_default))]
+fn add_word(
+    text: &[u8],
+    object: &mut Object,
+    i: usize,
+    slot: Slot,
+    made: Made,
+) -> Result<Result<(), AsmRule>, AllocError>
+    requires there { i < vec_len object.old.parts }
+    ensures is { IfOk result (λ done. Becomes done object.new (with_word text.now slot.line slot.chained made (Some slot.word) (state_of object.old) i)) }
+    ensures parts { IfOk result (λ done. vec_len object.new.parts ≡ vec_len object.old.parts) }
+    ensures current { object.new.current ≡ object.old.current }
+{
+    let offset = object.parts[i].size;
+    if !has_room(offset, 4) {
+        return Ok(Err(AsmRule::Large));
+    }
+    let entry = relocate(text, &mut object.symbols, offset, made.relocation)?;
+    add_instruction(&mut object.parts, i, slot, entry)?;
+    Ok(Ok(()))
+}
+
+fn add_made(
+    text: &[u8],
+    line: u32,
+    head: Head,
+    object: &mut Object,
+    made: Made,
+) -> Result<Result<(), AsmRule>, AllocError>
+    requires sound { IsSound object.old }
+    ensures is { IfOk result (λ done. Becomes done object.new (with_made text.now line head (state_of object.old) made)) }
+    ensures sound { IfOk result (λ done. IsSound object.new) }
+{
+    match object.current {
+        None => Ok(Err(AsmRule::NoSection)),
+        Some(i) => match word_of(head.condition, made.op) {
+            None => Ok(Err(AsmRule::Operand)),
+            Some(word) => add_word(
+                text,
+                object,
+                i,
+                Slot {
+                    line,
+                    chained: head.chained,
+                    word,
+                },
+                made,
+            ),
+        },
+    }
+}
+
+fn instruction_fault(object: &Object, head: Head) -> Option<AsmRule>
+    requires { IsSound object.now }
+    ensures { result ≡ instruction_fault (state_of object.now) head }
+{
+    let behind = is_behind(&object.parts, object.current);
+    lowest(
+        chain_fault(head.chained, behind),
+        place_fault(&object.parts, object.current),
+    )
+}
+
+/// Adds an instruction, or answers the lowest rule that it breaks.
+#[tactic(auto, unfolding(crate::specs::Instructing::instructed))]
+pub fn instruct(
+    text: &[u8],
+    line: u32,
+    head: Head,
+    operands: &[Operand],
+    object: &mut Object,
+) -> Result<Result<(), AsmRule>, AllocError>
+    requires sound { IsSound object.old }
+    ensures is { IfOk result (λ done. Becomes done object.new (instructed text.now line head operands.now (state_of object.old))) }
+    ensures sound { IfOk result (λ done. IsSound object.new) }
+{
+    match (
+        instruction_fault(object, head),
+        instruction_of(text, head, operands),
+    ) {
+        (None, Ok(made)) => add_made(text, line, head, object, made),
+        (None, Err(rule)) => Ok(Err(rule)),
+        (Some(rule), Ok(_)) => Ok(Err(rule)),
+        (Some(rule), Err(other)) => Ok(Err(lower(rule, other))),
+    }
+}

@@ -1,0 +1,59 @@
+ghost use Rattle.std.specs.Prelude.{◌≡◌, ◌+◌, ◌<◌, IfSome, OnOk, length, vec_len};
+ghost use Rattle.c6x_asm_steps.specs.States.{State, state_of, IsSound, section_fault, label_spot, label_fault, labelled};
+
+use crate::marking::{place, placed_fault};
+use c6x_asm_directives::lowest;
+use c6x_asm_lines::Word;
+use c6x_asm_object::{Object, Part, Spot};
+use c6x_asm_operands::AsmRule;
+use std::alloc::AllocError;
+
+fn section_fault(now: Option<usize>) -> Option<AsmRule>
+    ensures { result ≡ section_fault now }
+{
+    match now {
+        None => Some(AsmRule::NoSection),
+        Some(_) => None,
+    }
+}
+
+#[tactic(auto, using(std::proofs::lemmas::List::get_or_default))]
+fn label_spot(parts: &[Part], now: Option<usize>) -> Spot
+    requires { IfSome now (λ i. i < length parts.now) }
+    ensures { result ≡ label_spot parts.now now }
+{
+    match now {
+        None => Spot {
+            section: 0,
+            value: 0,
+            size: 0,
+        },
+        Some(i) => Spot {
+            section: i + 1,
+            value: parts[i].size,
+            size: 0,
+        },
+    }
+}
+
+/// The lower of the rules that a label breaks.
+#[tactic(auto, unfolding(crate::specs::States::label_fault))]
+pub fn label_fault(text: &[u8], object: &Object, word: Word) -> Option<AsmRule>
+    ensures { result ≡ label_fault text.now (state_of object.now) word }
+{
+    lowest(
+        placed_fault(text, &object.symbols, word),
+        section_fault(object.current),
+    )
+}
+
+/// Puts a label at the end of the section that lines go to.
+#[tactic(auto, unfolding(crate::specs::States::labelled))]
+pub fn set_label(text: &[u8], object: &mut Object, word: Word) -> Result<(), AllocError>
+    requires { IsSound object.old }
+    ensures is { OnOk result (state_of object.new ≡ labelled text.now (state_of object.old) word) }
+    ensures sound { IsSound object.new }
+{
+    let spot = label_spot(&object.parts, object.current);
+    place(text, &mut object.symbols, word, spot)
+}
