@@ -1,0 +1,9 @@
+pub mod Items
+pub mod Text
+pub mod Fetched
+pub mod Loads
+pub mod Lines
+pub mod Slots
+pub mod Ends
+pub mod Commands
+pub mod Runs

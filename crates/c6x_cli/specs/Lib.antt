@@ -1,0 +1,9 @@
+pub mod Words
+pub mod Lines
+pub mod Exits
+pub mod Steps
+pub mod Loading
+pub mod Report
+pub mod Run
+pub mod Result
+pub mod Causes

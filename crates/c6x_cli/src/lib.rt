@@ -1,0 +1,20 @@
+//! The commands of `c6x` over a shelf of files, an output, an error output and a board.
+#![tactic(auto)]
+
+mod carry;
+mod carry_run;
+mod cause;
+mod command_word;
+mod end_text;
+mod fetch;
+mod hex;
+mod loading;
+mod prepare;
+mod ready;
+mod report;
+mod say;
+mod stop;
+mod top;
+mod words;
+
+pub use top::command;

@@ -1,0 +1,11 @@
+use crate::loading::Loading;
+use c6x_exec::Process;
+
+/// A command that nothing stops any more but its devices.
+#[derive(Drop)]
+pub enum Ready {
+    /// The process stands where the report says.
+    Map(Loading),
+    /// The process is made, and has done no cycle.
+    Run(Loading, Process),
+}

@@ -1,0 +1,84 @@
+ghost use Rattle.std.specs.Prelude.{◌≡◌, IfOk};
+ghost use Rattle.c6x_spec.specs.Memory.{CanStart};
+
+use c6x_base::{Bytes, Name};
+use c6x_board::Board;
+use c6x_cli::command;
+use c6x_ports::{MemoryShelf, MemorySink, Stored};
+use std::alloc::{AllocError, Global};
+
+/// The first address of each board.
+pub const BASE: u32 = 0x8000_0000;
+
+/// Devices in memory.
+#[derive(Drop)]
+pub struct Devices {
+    pub shelf: MemoryShelf,
+    pub out: MemorySink,
+    pub err: MemorySink,
+    pub board: Board,
+}
+
+/// A shelf with `one.plan` and `app.out`, whose calls with these numbers fail; an output whose puts with these numbers
+/// fail; and a board of `len` bytes that are all 0xAA.
+pub fn filled_devices(
+    alloc: Global,
+    plan: &[u8],
+    app: &[u8],
+    failing_calls: &[u32],
+    failing_puts: &[u32],
+    len: u32,
+) -> Result<Devices, AllocError>
+    requires { CanStart BASE len }
+{
+    let plan = stored(alloc, b"one.plan", plan)?;
+    let image = stored(alloc, b"app.out", app)?;
+    let mut board = Board::new(alloc, BASE, len)?;
+    board.copy_in(BASE, &vec![in alloc; 0xAA; len as usize]?);
+    Ok(Devices {
+        shelf: MemoryShelf::new(
+            vec![in alloc; plan, image]?,
+            Vec::from_slice(alloc, failing_calls)?,
+        ),
+        out: MemorySink::new(alloc, 65_536, Vec::from_slice(alloc, failing_puts)?)?,
+        err: MemorySink::new(alloc, 65_536, Vec::new(alloc))?,
+        board,
+    })
+}
+
+// A file in memory of its own.
+fn stored(alloc: Global, name: &[u8], bytes: &[u8]) -> Result<Stored, AllocError>
+    ensures { IfOk result (λ file. file.name ≡ name.now) }
+{
+    Ok(Stored {
+        name: Name::from_bytes(alloc, name)?,
+        bytes: Bytes::from_bytes(alloc, bytes)?,
+    })
+}
+
+/// The status of the command with these words, split at spaces.
+pub fn perform(alloc: Global, devices: &mut Devices, text: &str) -> Result<u8, AllocError> {
+    let mut words = Vec::new(alloc);
+    for word in text.split(' ') {
+        words.push(Name::from_bytes(alloc, word.as_bytes())?)?;
+    }
+    Ok(command(
+        alloc,
+        words,
+        &mut devices.shelf,
+        &mut devices.out,
+        &mut devices.err,
+        &mut devices.board,
+    ))
+}
+
+/// The word at an address of the board, if it lies there.
+pub fn word_at(board: &Board, at: u32) -> Option<u32> {
+    let place = at.checked_sub(board.base())?;
+    let end = place.checked_add(4)?;
+    if end <= board.len() {
+        Some(board.read32(at))
+    } else {
+        None
+    }
+}

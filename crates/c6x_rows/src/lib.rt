@@ -1,0 +1,14 @@
+//! Worked rows: commands over devices in memory, and what they leave.
+//!
+//! The contract of `command` says what every call gives. These tests show that calls with ample memory give it, with
+//! texts and statuses that were worked out by hand.
+#![tactic(auto)]
+
+#[cfg(test)]
+mod devices;
+#[cfg(test)]
+mod images;
+#[cfg(test)]
+mod map;
+#[cfg(test)]
+mod run;
