@@ -3,9 +3,11 @@
 #![tactic(auto)]
 
 mod conditions;
+mod loads;
 mod memory;
 mod rows;
 mod shifts;
 mod values;
 
+pub use loads::write_of_load;
 pub use rows::effects;

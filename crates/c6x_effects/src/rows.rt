@@ -43,7 +43,7 @@ pub fn only_wait(wait: u8) -> Effects
 }
 
 /// A write of a register.
-fn written(side: Side, register: u8, value: u32, delay: u8) -> Option<Write>
+pub fn written(side: Side, register: u8, value: u32, delay: u8) -> Option<Write>
     requires there { register < 32 }
     requires soon { delay ≤ 4 }
     ensures write { result ≡ written_to side register value delay }

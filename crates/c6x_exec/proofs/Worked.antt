@@ -3,13 +3,13 @@ use Rattle.std.specs.Prelude.{◌≡◌, ℕ, ◌-◌, ◌*◌, ◌%◌, List, [
 use Rattle.c6x_exec.specs.History.{Stores, number_at, registers_at}
 use Rattle.c6x_exec.specs.Machine.{outcome_of, packet_of, issued, carried, limit_end, next_of, going, alone, life}
 use Rattle.c6x_exec.specs.Origin.{Origin, origin_of}
-use Rattle.c6x_exec.specs.Packet.{low_bytes, loaded, longest, words_of, is_carried, instr_of, with_packet, ends_if, two_targets, fault_of}
+use Rattle.c6x_exec.specs.Packet.{low_bytes, longest, words_of, is_carried, instr_of, with_packet, ends_if, two_targets, fault_of}
 use Rattle.c6x_exec.specs.Area.{may_access}
 use Rattle.c6x_exec.specs.declared.end.End.{End}
 use Rattle.c6x_exec.specs.declared.end.End.TheVariants.{Exit, Fault, Limit}
 use Rattle.c6x_exec.specs.declared.fault_kind.FaultKind.TheVariants.{Fetch, BadWord}
 use Rattle.c6x_instr.specs.Decoded.{decoded}
-use Rattle.c6x_instr.specs.Rows.{effects_of, only_wait}
+use Rattle.c6x_instr.specs.Rows.{effects_of, loaded, only_wait}
 
 abbrev code_of : List ℕ → List ℕ
 code_of [] = []

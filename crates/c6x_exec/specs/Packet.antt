@@ -13,7 +13,7 @@ use Rattle.c6x_instr.specs.declared.op.Op.TheVariants.{Move, BranchReg, BranchRe
 use Rattle.c6x_instr.specs.declared.move_kind.MoveKind.TheVariants.{Mvk}
 use Rattle.c6x_instr.specs.Registers.{place_of}
 use Rattle.c6x_instr.specs.Decoded.{decoded}
-use Rattle.c6x_instr.specs.Rows.{effects_of}
+use Rattle.c6x_instr.specs.Rows.{effects_of, write_of_access}
 use Rattle.c6x_exec.specs.History.{Effect, Lands, Turns, Stores, Issues, write_at, target_at, number_at}
 use Rattle.c6x_exec.specs.Area.{Area, Reads, Writes, Runs, may_access}
 use Rattle.c6x_exec.specs.Origin.{Origin}
@@ -104,20 +104,11 @@ abbrev pub with_target : Option ℕ → ℕ → List Effect → List Effect
 with_target None t h = h
 with_target (Some target) t h = Turns (t + 6) target ∷ h
 
--- the number of a load as its register holds it
-abbrev pub loaded : Bool → ℕ → ℕ → ℕ
-loaded false size number = number
-loaded true size number = if nat_lt number (2 ^ (8 * size - 1)) then number else (number + (2 ^ 32 - 2 ^ (8 * size)))
-
--- a load has four delay slots, and reads the bytes before this packet's stores
+-- a load reads the bytes before this packet's stores
 abbrev pub with_load : Origin → List Effect → ℕ → Option MemOp → List Effect → List Effect
 with_load s before t None h = h
-with_load s before t (Some access) h = with_job access.job
-  where
-    with_job : Job → List Effect
-    with_job (Load signed side register) =
-        Lands (t + 5) (place_of side register) (loaded signed access.size (number_at s.bytes before t access.address access.size)) ∷ h
-    with_job (Store value) = h
+with_load s before t (Some access) h =
+    with_write (write_of_access access (number_at s.bytes before t access.address access.size)) t h
 
 abbrev pub low_bytes : ℕ → ℕ → List ℕ
 low_bytes zero value = []

@@ -1,7 +1,7 @@
 -- What an instruction does, from the values of the registers, as the rows of the instruction set (SPRU732,
 -- "Instruction Descriptions").
 
-use Rattle.std.specs.Prelude.{◌≡◌, ℕ, ◌-◌, ◌*◌, ◌%◌, ◌^◌, ◌<◌, ◌≤◌, ◌⊎◌, nat_eq, Bool, true, false, not, List, Option, None, Some, IfSome, if◌then◌else◌}
+use Rattle.std.specs.Prelude.{◌≡◌, ℕ, ◌+◌, ◌-◌, ◌*◌, ◌%◌, ◌^◌, ◌<◌, ◌≤◌, ◌⊎◌, nat_eq, nat_lt, Bool, true, false, not, List, Option, None, Some, IfSome, if◌then◌else◌}
 use Rattle.c6x_base.specs.declared.side.Side.{Side}
 use Rattle.c6x_base.specs.declared.side.Side.TheVariants.{A, B}
 use Rattle.c6x_instr.specs.declared.access.Access.{Access}
@@ -85,6 +85,19 @@ job_of registers Stw side register = Store (register_of registers side register)
 abbrev pub access_at : List ℕ → Access → Side → ℕ → ℕ → Option MemOp
 access_at registers access side register address =
     Some (record { address = address; size = size_of access; job = job_of registers access side register })
+
+-- The number of a load as its register holds it: with its sign, or with zeros before it.
+abbrev pub loaded : Bool → ℕ → ℕ → ℕ
+loaded false size number = number
+loaded true size number = if nat_lt number (2 ^ (8 * size - 1)) then number else (number + (2 ^ 32 - 2 ^ (8 * size)))
+
+-- What a load writes of the number of its bytes: a load has four delay slots (SPRU732, "LDW"). A store writes none.
+abbrev pub written_by_job : Job → ℕ → ℕ → Option Write
+written_by_job (Load signed side register) size number = written_to side register (loaded signed size number) 4
+written_by_job (Store value) size number = None
+
+abbrev pub write_of_access : MemOp → ℕ → Option Write
+write_of_access access number = written_by_job access.job access.size number
 
 -- The offset of a short load or store in bytes.
 abbrev pub distance_of : List ℕ → Access → Side → ℕ → ℕ → ℕ

@@ -5,7 +5,7 @@
 
 #![tactic(auto)]
 
-pub use c6x_effects::effects;
+pub use c6x_effects::{effects, write_of_load};
 pub use c6x_encoding::{
     at_most_one_instruction, decode, decoded_iff_spelled, encode, exactly_one_word, is_valid,
 };
