@@ -1,3 +1,5 @@
 pub mod Kinds
+pub mod Names
 pub mod Parts
 pub mod Symbols
+pub mod Named

@@ -1,9 +1,8 @@
 -- The names of a text, in order of first appearance.
-use Rattle.std.specs.Prelude.{ℕ, Bool, true, false, List, [], ◌∷◌, ◌++◌, length, slice_index_or, slice_set, Option, Some, None, position}
+use Rattle.std.specs.Prelude.{ℕ, ◌+◌, false, List, [], ◌∷◌, ◌++◌, length, Option, Some, None, position}
 use Rattle.std.specs.Str.{bytes_eq}
 use Rattle.c6x_asm_lines.specs.declared.word.Word.{Word}
 use Rattle.c6x_asm_directives.specs.Directives.{quoted}
-use Rattle.c6x_asm_object.specs.declared.spot.Spot.{Spot}
 use Rattle.c6x_asm_object.specs.declared.symbol.Symbol.{Symbol}
 
 abbrev pub symbol_name : List ℕ → Symbol → List ℕ
@@ -23,3 +22,8 @@ or_added None symbols word = (symbols ++ fresh word ∷ [], length symbols)
 -- the names with this one, and its place
 unfoldable pub interned : List ℕ → List Symbol → Word → List Symbol × ℕ
 interned text symbols word = or_added (symbol_at text symbols (quoted text word.at word.len)) symbols word
+
+-- the bytes of the names with one more for each
+abbrev pub names_total : List ℕ → List Symbol → ℕ
+names_total text [] = 0
+names_total text (s ∷ symbols) = length (symbol_name text s) + 1 + names_total text symbols

@@ -1,20 +1,22 @@
-ghost use Rattle.std.specs.Prelude.{◌≡◌, ◌<◌, IfOk, IfSome, length, vec_len, position};
-ghost use Rattle.std.specs.Str.{bytes_eq};
-ghost use Rattle.c6x_asm_object.specs.Symbols.{symbol_name, symbol_at, fresh, or_added, interned};
+ghost use Rattle.std.specs.Prelude.{◌≡◌, ◌<◌, ◌++◌, ◌∷◌, [], None, IfOk, IfSome, OnOk, vec_len};
+ghost use Rattle.c6x_asm_directives.specs.Directives.{quoted};
+ghost use Rattle.c6x_asm_object.specs.Symbols.{symbol_at, fresh, or_added, interned};
+ghost use Rattle.c6x_asm_object.specs.Named.{AreNamed};
 
-use crate::naming::same_bytes;
 use crate::symbol::Symbol;
+use crate::symbols::Symbols;
 use c6x_asm_directives::quoted;
 use c6x_asm_lines::Word;
 use std::alloc::AllocError;
 
-/// The place of a name among these.
-#[tactic(auto, unfolding(crate::specs::Symbols::symbol_at))]
-pub fn symbol_at(text: &[u8], symbols: &[Symbol], name: &[u8]) -> Option<usize>
-    ensures is { result ≡ symbol_at text.now symbols.now name.now }
-    ensures there { IfSome result (λ i. i < length symbols.now) }
+/// The place of a word's name among the names so far.
+#[tactic(auto, using(crate::proofs::Kept::name_of_symbol))]
+pub fn symbol_at(text: &[u8], symbols: &Symbols, word: Word) -> Option<usize>
+    requires named { AreNamed text.now symbols.now }
+    ensures is { result ≡ symbol_at text.now symbols.now.list.items (quoted text.now word.at word.len) }
+    ensures there { IfSome result (λ i. i < vec_len symbols.now.list) }
 {
-    symbols.iter().position(|symbol| same_bytes(quoted(text, symbol.at, symbol.len), name))
+    symbols.names.find(quoted(text, word.at, word.len))
 }
 
 #[tactic(auto, unfolding(crate::specs::Symbols::fresh))]
@@ -31,17 +33,42 @@ fn fresh(word: Word) -> Symbol
     }
 }
 
+// Adds a name that is not there.
+#[tactic(auto, unfolding(crate::specs::Symbols::fresh), using(crate::proofs::Kept::name_of_symbol, crate::proofs::Kept::total_push, crate::proofs::Kept::names_push))]
+fn add_symbol<'a>(text: &'a [u8], symbols: &mut Symbols<'a>, word: Word) -> Result<(), AllocError>
+    requires named { AreNamed text.now symbols.old }
+    requires absent { symbol_at text.now symbols.old.list.items (quoted text.now word.at word.len) ≡ None }
+    ensures is { OnOk result (symbols.new.list.items ≡ symbols.old.list.items ++ fresh word ∷ []) }
+    ensures named { OnOk result (AreNamed text.now symbols.new) }
+{
+    let name = quoted(text, word.at, word.len);
+    // That the names of one text never take so much is not proved: it counts as want of memory.
+    let Some(names_len) = symbols.names_len.checked_add(name.len() + 1) else {
+        return Err(AllocError);
+    };
+    symbols.list.push(fresh(word)).map_err(AllocError::from)?;
+    symbols.names.add(name)?;
+    symbols.names_len = names_len;
+    Ok(())
+}
+
 /// The place of a name, which is added at the end if it is new.
 #[tactic(auto, unfolding(crate::specs::Symbols::interned))]
-pub fn intern(text: &[u8], symbols: &mut Vec<Symbol>, word: Word) -> Result<usize, AllocError>
-    ensures is { IfOk result (λ i. interned text.now symbols.old.items word ≡ (symbols.new.items, i)) }
-    ensures there { IfOk result (λ i. i < vec_len symbols.new) }
+pub fn intern<'a>(
+    text: &'a [u8],
+    symbols: &mut Symbols<'a>,
+    word: Word,
+) -> Result<usize, AllocError>
+    requires named { AreNamed text.now symbols.old }
+    ensures is { IfOk result (λ i. interned text.now symbols.old.list.items word ≡ (symbols.new.list.items, i)) }
+    ensures there { IfOk result (λ i. i < vec_len symbols.new.list) }
+    ensures named { OnOk result (AreNamed text.now symbols.new) }
 {
-    match symbol_at(text, symbols, quoted(text, word.at, word.len)) {
+    match symbol_at(text, symbols, word) {
         Some(i) => Ok(i),
         None => {
-            let i = symbols.len();
-            symbols.push(fresh(word)).map_err(AllocError::from)?;
+            let i = symbols.list.len();
+            add_symbol(text, symbols, word)?;
             Ok(i)
         }
     }

@@ -4,7 +4,7 @@ ghost use Rattle.c6x_asm_object.specs.Kinds.{is_under, kind_named, first_align};
 
 use crate::part_kind::PartKind;
 
-pub fn same_bytes(a: &[u8], b: &[u8]) -> bool
+fn same_bytes(a: &[u8], b: &[u8]) -> bool
     ensures { result ≡ bytes_eq a.now b.now }
 {
     a == b

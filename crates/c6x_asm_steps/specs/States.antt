@@ -16,6 +16,7 @@ use Rattle.c6x_asm_object.specs.declared.part.Part.{Part}
 use Rattle.c6x_asm_object.specs.declared.spot.Spot.{Spot}
 use Rattle.c6x_asm_object.specs.declared.symbol.Symbol.{Symbol}
 use Rattle.c6x_asm_object.specs.Kinds.{kind_named}
+use Rattle.c6x_asm_object.specs.Named.{AreNamed, part_names}
 use Rattle.c6x_asm_object.specs.Parts.{empty_part, part_of}
 use Rattle.c6x_asm_object.specs.Symbols.{symbol_at, interned}
 
@@ -25,11 +26,13 @@ pub record State : Type 0 where
   pub symbols : List Symbol
 
 abbrev pub state_of : Object → State
-state_of o = record { parts = o.parts.items; now = o.current; symbols = o.symbols.items }
+state_of o = record { parts = o.parts.items; now = o.current; symbols = o.symbols.list.items }
 
--- lines go to a section that there is
-abbrev pub IsSound : Object → Type 0
-IsSound o = IfSome o.current (λ i. i < vec_len o.parts)
+-- lines go to a section that there is, and the names kept beside the sections and symbols are theirs in this text
+pub record IsSound (text : List ℕ) (o : Object) : Type 0 where
+  pub current : IfSome o.current (λ i. i < vec_len o.parts)
+  pub parts : o.part_names ≡ part_names text o.parts.items
+  pub symbols : AreNamed text o.symbols
 
 unfoldable pub no_symbol : Symbol
 no_symbol = record { at = 0; len = 0; spot = None; global = false; weak = false; hidden = false }

@@ -1,4 +1,4 @@
-ghost use Rattle.std.specs.Prelude.{◌≡◌, ◌+◌, ◌<◌, ◌≤◌, nat_le, IfOk, vec_len, length};
+ghost use Rattle.std.specs.Prelude.{◌≡◌, ℕ, ◌+◌, ◌<◌, ◌≤◌, nat_le, List, IfOk, vec_len, length};
 ghost use Rattle.c6x_asm_object.specs.Parts.{part_of, padding};
 ghost use Rattle.c6x_asm_steps.specs.States.{State, state_of, IsSound, Becomes, placed_fault};
 ghost use Rattle.c6x_asm_steps.specs.Adding.{with_field, with_fields, with_space, with_alignment, given_place, common_section, applied};
@@ -21,18 +21,19 @@ pub fn has_room(size: u32, count: u32) -> bool
 }
 
 #[tactic(auto, unfolding(crate::specs::Adding::with_field), using(std::proofs::lemmas::List::get_or_default))]
-fn add_field(
-    text: &[u8],
-    object: &mut Object,
+fn add_field<'a>(
+    text: &'a [u8],
+    object: &mut Object<'a>,
     i: usize,
     size: u32,
     field: Field,
 ) -> Result<Result<(), AsmRule>, AllocError>
+    requires sound { IsSound text.now object.old }
     requires there { i < vec_len object.old.parts }
     requires few { size ≤ 4 }
     ensures is { IfOk result (λ done. Becomes done object.new (with_field text.now i size (state_of object.old) field)) }
     ensures parts { IfOk result (λ done. vec_len object.new.parts ≡ vec_len object.old.parts) }
-    ensures current { object.new.current ≡ object.old.current }
+    ensures sound { IfOk result (λ done. IsSound text.now object.new) }
 {
     let offset = object.parts[i].size;
     if !has_room(offset, size) {
@@ -43,18 +44,19 @@ fn add_field(
     Ok(Ok(()))
 }
 
-fn add_fields(
-    text: &[u8],
-    object: &mut Object,
+fn add_fields<'a>(
+    text: &'a [u8],
+    object: &mut Object<'a>,
     i: usize,
     size: u32,
     fields: &[Field],
 ) -> Result<Result<(), AsmRule>, AllocError>
+    requires sound { IsSound text.now object.old }
     requires there { i < vec_len object.old.parts }
     requires few { size ≤ 4 }
     ensures is { IfOk result (λ done. Becomes done object.new (with_fields text.now i size (state_of object.old) fields.now)) }
     ensures parts { IfOk result (λ done. vec_len object.new.parts ≡ vec_len object.old.parts) }
-    ensures current { object.new.current ≡ object.old.current }
+    ensures sound { IfOk result (λ done. IsSound text.now object.new) }
 {
     for field in fields {
         if let Err(rule) = add_field(text, object, i, size, *field)? {
@@ -69,7 +71,7 @@ fn add_space(object: &mut Object, i: usize, count: u32) -> Result<Result<(), Asm
     requires there { i < vec_len object.old.parts }
     ensures is { IfOk result (λ done. Becomes done object.new (with_space count (state_of object.old) i)) }
     ensures parts { IfOk result (λ done. vec_len object.new.parts ≡ vec_len object.old.parts) }
-    ensures current { object.new.current ≡ object.old.current }
+    ensures sound { IfOk result (λ done. (text : List ℕ) → IsSound text object.old → IsSound text object.new) }
 {
     let size = object.parts[i].size;
     if !has_room(size, count) {
@@ -85,7 +87,7 @@ fn align_to(object: &mut Object, i: usize, align: u32) -> Result<Result<(), AsmR
     requires some { 1 ≤ align }
     ensures is { IfOk result (λ done. Becomes done object.new (with_alignment align (state_of object.old) i)) }
     ensures parts { IfOk result (λ done. vec_len object.new.parts ≡ vec_len object.old.parts) }
-    ensures current { object.new.current ≡ object.old.current }
+    ensures sound { IfOk result (λ done. (text : List ℕ) → IsSound text object.old → IsSound text object.new) }
 {
     let size = object.parts[i].size;
     if !has_room(size, padding(size, align)) {
@@ -95,15 +97,15 @@ fn align_to(object: &mut Object, i: usize, align: u32) -> Result<Result<(), AsmR
     Ok(Ok(()))
 }
 
-fn give_place(
-    text: &[u8],
-    object: &mut Object,
+fn give_place<'a>(
+    text: &'a [u8],
+    object: &mut Object<'a>,
     word: Word,
     spot: Spot,
 ) -> Result<Result<(), AsmRule>, AllocError>
-    ensures is { IfOk result (λ done. Becomes done object.new (given_place text.now (state_of object.old) word spot (placed_fault text.now object.old.symbols.items word))) }
-    ensures parts { vec_len object.new.parts ≡ vec_len object.old.parts }
-    ensures current { object.new.current ≡ object.old.current }
+    requires sound { IsSound text.now object.old }
+    ensures is { IfOk result (λ done. Becomes done object.new (given_place text.now (state_of object.old) word spot (placed_fault text.now object.old.symbols.list.items word))) }
+    ensures sound { IfOk result (λ done. IsSound text.now object.new) }
 {
     match placed_fault(text, &object.symbols, word) {
         Some(rule) => Ok(Err(rule)),
@@ -122,16 +124,16 @@ fn common_section(near: bool) -> usize
 
 /// What a directive adds, or the rule that it breaks.
 #[tactic(auto, unfolding(crate::specs::Adding::applied))]
-pub fn apply(
+pub fn apply<'a>(
     alloc: Global,
-    text: &[u8],
-    object: &mut Object,
+    text: &'a [u8],
+    object: &mut Object<'a>,
     directive: &Directive,
 ) -> Result<Result<(), AsmRule>, AllocError>
-    requires sound { IsSound object.old }
+    requires sound { IsSound text.now object.old }
     requires fits { FitsDirective directive.now }
     ensures is { IfOk result (λ done. Becomes done object.new (applied text.now (state_of object.old) directive.now)) }
-    ensures sound { IfOk result (λ done. IsSound object.new) }
+    ensures sound { IfOk result (λ done. IsSound text.now object.new) }
 {
     match directive {
         Directive::Section { at, len } => {

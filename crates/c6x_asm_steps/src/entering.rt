@@ -1,45 +1,66 @@
-ghost use Rattle.std.specs.Prelude.{◌≡◌, ◌<◌, IfSome, OnOk, length, position, vec_len};
-ghost use Rattle.std.specs.Str.{bytes_eq};
+ghost use Rattle.std.specs.Prelude.{◌≡◌, ◌++◌, ◌∷◌, [], ◌<◌, None, IfSome, OnOk, vec_len};
+ghost use Rattle.c6x_asm_directives.specs.Directives.{quoted};
+ghost use Rattle.c6x_asm_object.specs.Kinds.{kind_named};
+ghost use Rattle.c6x_asm_object.specs.Parts.{empty_part};
 ghost use Rattle.c6x_asm_steps.specs.States.{State, state_of, IsSound, part_at, entered};
 
 use c6x_asm_directives::quoted;
-use c6x_asm_object::{Object, Part, empty_part, kind_named, same_bytes};
+use c6x_asm_object::{Object, empty_part, kind_named};
 use std::alloc::{AllocError, Global};
 
-#[tactic(auto, unfolding(crate::specs::States::part_at))]
-fn part_at(text: &[u8], parts: &[Part], name: &[u8]) -> Option<usize>
-    ensures is { result ≡ part_at text.now parts.now name.now }
-    ensures there { IfSome result (λ i. i < length parts.now) }
+#[tactic(auto, using(crate::proofs::Sound::name_of_part))]
+fn part_at(text: &[u8], object: &Object, at: u32, len: u32) -> Option<usize>
+    requires sound { IsSound text.now object.now }
+    ensures is { result ≡ part_at text.now object.now.parts.items (quoted text.now at len) }
+    ensures there { IfSome result (λ i. i < vec_len object.now.parts) }
 {
-    parts
-        .iter()
-        .position(|part| same_bytes(quoted(text, part.at, part.len), name))
+    object.part_names.find(quoted(text, at, len))
+}
+
+// Adds a section whose name is not there.
+#[tactic(auto, unfolding(c6x_asm_object::specs::Parts::empty_part), using(crate::proofs::Sound::name_of_part, crate::proofs::Sound::part_names_push))]
+fn add_part<'a>(
+    alloc: Global,
+    text: &'a [u8],
+    object: &mut Object<'a>,
+    at: u32,
+    len: u32,
+) -> Result<(), AllocError>
+    requires sound { IsSound text.now object.old }
+    requires absent { part_at text.now object.old.parts.items (quoted text.now at len) ≡ None }
+    ensures parts { OnOk result (object.new.parts.items ≡ object.old.parts.items ++ empty_part at len (kind_named (quoted text.now at len)) ∷ []) }
+    ensures symbols { object.new.symbols ≡ object.old.symbols }
+    ensures sound { OnOk result (IsSound text.now object.new) }
+{
+    let name = quoted(text, at, len);
+    object
+        .parts
+        .push(empty_part(alloc, at, len, kind_named(name)))
+        .map_err(AllocError::from)?;
+    object.part_names.add(name)
 }
 
 /// Lines go on in the section with this name, which is added if it is new.
 #[tactic(auto, unfolding(crate::specs::States::entered))]
-pub fn enter(
+pub fn enter<'a>(
     alloc: Global,
-    text: &[u8],
-    object: &mut Object,
+    text: &'a [u8],
+    object: &mut Object<'a>,
     at: u32,
     len: u32,
 ) -> Result<(), AllocError>
+    requires sound { IsSound text.now object.old }
     ensures is { OnOk result (state_of object.new ≡ entered text.now at len (state_of object.old)) }
-    ensures sound { OnOk result (IsSound object.new) }
+    ensures sound { OnOk result (IsSound text.now object.new) }
 {
-    let name = quoted(text, at, len);
-    match part_at(text, &object.parts, name) {
+    match part_at(text, object, at, len) {
         Some(i) => {
             object.current = Some(i);
             Ok(())
         }
         None => {
             let i = object.parts.len();
-            object
-                .parts
-                .push(empty_part(alloc, at, len, kind_named(name)))
-                .map_err(AllocError::from)?;
+            add_part(alloc, text, object, at, len)?;
             object.current = Some(i);
             Ok(())
         }

@@ -86,17 +86,17 @@ fn word_of(condition: Cond, op: Op) -> Option<u32>
 }
 
 #[tactic(auto, using(std::proofs::lemmas::List::get_or_default))]
-fn add_word(
-    text: &[u8],
-    object: &mut Object,
+fn add_word<'a>(
+    text: &'a [u8],
+    object: &mut Object<'a>,
     i: usize,
     slot: Slot,
     made: Made,
 ) -> Result<Result<(), AsmRule>, AllocError>
+    requires sound { IsSound text.now object.old }
     requires there { i < vec_len object.old.parts }
     ensures is { IfOk result (λ done. Becomes done object.new (with_word text.now slot.line slot.chained made (Some slot.word) (state_of object.old) i)) }
-    ensures parts { IfOk result (λ done. vec_len object.new.parts ≡ vec_len object.old.parts) }
-    ensures current { object.new.current ≡ object.old.current }
+    ensures sound { IfOk result (λ done. IsSound text.now object.new) }
 {
     let offset = object.parts[i].size;
     if !has_room(offset, 4) {
@@ -107,16 +107,16 @@ fn add_word(
     Ok(Ok(()))
 }
 
-fn add_made(
-    text: &[u8],
+fn add_made<'a>(
+    text: &'a [u8],
     line: u32,
     head: Head,
-    object: &mut Object,
+    object: &mut Object<'a>,
     made: Made,
 ) -> Result<Result<(), AsmRule>, AllocError>
-    requires sound { IsSound object.old }
+    requires sound { IsSound text.now object.old }
     ensures is { IfOk result (λ done. Becomes done object.new (with_made text.now line head (state_of object.old) made)) }
-    ensures sound { IfOk result (λ done. IsSound object.new) }
+    ensures sound { IfOk result (λ done. IsSound text.now object.new) }
 {
     match object.current {
         None => Ok(Err(AsmRule::NoSection)),
@@ -138,7 +138,7 @@ fn add_made(
 }
 
 fn instruction_fault(object: &Object, head: Head) -> Option<AsmRule>
-    requires { IsSound object.now }
+    requires { IfSome object.now.current (λ i. i < vec_len object.now.parts) }
     ensures { result ≡ instruction_fault (state_of object.now) head }
 {
     let behind = is_behind(&object.parts, object.current);
@@ -150,16 +150,16 @@ fn instruction_fault(object: &Object, head: Head) -> Option<AsmRule>
 
 /// Adds an instruction, or answers the lowest rule that it breaks.
 #[tactic(auto, unfolding(crate::specs::Instructing::instructed))]
-pub fn instruct(
-    text: &[u8],
+pub fn instruct<'a>(
+    text: &'a [u8],
     line: u32,
     head: Head,
     operands: &[Operand],
-    object: &mut Object,
+    object: &mut Object<'a>,
 ) -> Result<Result<(), AsmRule>, AllocError>
-    requires sound { IsSound object.old }
+    requires sound { IsSound text.now object.old }
     ensures is { IfOk result (λ done. Becomes done object.new (instructed text.now line head operands.now (state_of object.old))) }
-    ensures sound { IfOk result (λ done. IsSound object.new) }
+    ensures sound { IfOk result (λ done. IsSound text.now object.new) }
 {
     match (
         instruction_fault(object, head),

@@ -39,6 +39,7 @@ fn label_spot(parts: &[Part], now: Option<usize>) -> Spot
 /// The lower of the rules that a label breaks.
 #[tactic(auto, unfolding(crate::specs::States::label_fault))]
 pub fn label_fault(text: &[u8], object: &Object, word: Word) -> Option<AsmRule>
+    requires { IsSound text.now object.now }
     ensures { result ≡ label_fault text.now (state_of object.now) word }
 {
     lowest(
@@ -49,10 +50,10 @@ pub fn label_fault(text: &[u8], object: &Object, word: Word) -> Option<AsmRule>
 
 /// Puts a label at the end of the section that lines go to.
 #[tactic(auto, unfolding(crate::specs::States::labelled))]
-pub fn set_label(text: &[u8], object: &mut Object, word: Word) -> Result<(), AllocError>
-    requires { IsSound object.old }
+pub fn set_label<'a>(text: &'a [u8], object: &mut Object<'a>, word: Word) -> Result<(), AllocError>
+    requires { IsSound text.now object.old }
     ensures is { OnOk result (state_of object.new ≡ labelled text.now (state_of object.old) word) }
-    ensures sound { IsSound object.new }
+    ensures sound { OnOk result (IsSound text.now object.new) }
 {
     let spot = label_spot(&object.parts, object.current);
     place(text, &mut object.symbols, word, spot)

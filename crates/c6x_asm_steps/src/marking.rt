@@ -1,19 +1,20 @@
 ghost use Rattle.std.specs.Prelude.{◌≡◌, ◌<◌, OnOk, vec_len};
+ghost use Rattle.c6x_asm_object.specs.Named.{AreNamed};
 ghost use Rattle.c6x_asm_steps.specs.States.{symbol_of, placed_at, marked_by, symbol_changed, name_changed, spot_of, fault_of_spot, placed_fault};
 
-use c6x_asm_directives::{Mark, quoted};
+use c6x_asm_directives::Mark;
 use c6x_asm_lines::Word;
-use c6x_asm_object::{Spot, Symbol, intern, symbol_at};
+use c6x_asm_object::{Spot, Symbol, Symbols, intern, symbol_at};
 use c6x_asm_operands::AsmRule;
 use std::alloc::AllocError;
 
 #[tactic(auto, using(std::proofs::lemmas::List::get_or_default))]
-fn set_spot(symbols: &mut Vec<Symbol>, i: usize, spot: Spot)
-    requires { i < vec_len symbols.old }
-    ensures { symbols.new.items ≡ symbol_changed symbols.old.items i (placed_at spot) }
+fn set_spot(list: &mut Vec<Symbol>, i: usize, spot: Spot)
+    requires { i < vec_len list.old }
+    ensures { list.new.items ≡ symbol_changed list.old.items i (placed_at spot) }
 {
-    let symbol = symbols[i];
-    symbols[i] = Symbol {
+    let symbol = list[i];
+    list[i] = Symbol {
         spot: Some(spot),
         ..symbol
     };
@@ -39,52 +40,57 @@ fn marked(mark: Mark, symbol: Symbol) -> Symbol
 }
 
 #[tactic(auto, using(std::proofs::lemmas::List::get_or_default))]
-fn set_mark(symbols: &mut Vec<Symbol>, i: usize, mark: Mark)
-    requires { i < vec_len symbols.old }
-    ensures { symbols.new.items ≡ symbol_changed symbols.old.items i (marked_by mark) }
+fn set_mark(list: &mut Vec<Symbol>, i: usize, mark: Mark)
+    requires { i < vec_len list.old }
+    ensures { list.new.items ≡ symbol_changed list.old.items i (marked_by mark) }
 {
-    let symbol = symbols[i];
-    symbols[i] = marked(mark, symbol);
+    let symbol = list[i];
+    list[i] = marked(mark, symbol);
 }
 
 /// Gives a name its place.
-#[tactic(auto, unfolding(crate::specs::States::name_changed))]
-pub fn place(
-    text: &[u8],
-    symbols: &mut Vec<Symbol>,
+#[tactic(auto, unfolding(crate::specs::States::name_changed), using(crate::proofs::Sound::names_placed, crate::proofs::Sound::total_placed))]
+pub fn place<'a>(
+    text: &'a [u8],
+    symbols: &mut Symbols<'a>,
     word: Word,
     spot: Spot,
 ) -> Result<(), AllocError>
-    ensures { OnOk result (symbols.new.items ≡ name_changed text.now symbols.old.items word (placed_at spot)) }
+    requires named { AreNamed text.now symbols.old }
+    ensures is { OnOk result (symbols.new.list.items ≡ name_changed text.now symbols.old.list.items word (placed_at spot)) }
+    ensures named { OnOk result (AreNamed text.now symbols.new) }
 {
     let i = intern(text, symbols, word)?;
-    set_spot(symbols, i, spot);
+    set_spot(&mut symbols.list, i, spot);
     Ok(())
 }
 
 /// Marks a name.
-#[tactic(auto, unfolding(crate::specs::States::name_changed))]
-pub fn mark(
-    text: &[u8],
-    symbols: &mut Vec<Symbol>,
+#[tactic(auto, unfolding(crate::specs::States::name_changed), using(crate::proofs::Sound::names_marked, crate::proofs::Sound::total_marked))]
+pub fn mark<'a>(
+    text: &'a [u8],
+    symbols: &mut Symbols<'a>,
     word: Word,
     mark: Mark,
 ) -> Result<(), AllocError>
-    ensures { OnOk result (symbols.new.items ≡ name_changed text.now symbols.old.items word (marked_by mark)) }
+    requires named { AreNamed text.now symbols.old }
+    ensures is { OnOk result (symbols.new.list.items ≡ name_changed text.now symbols.old.list.items word (marked_by mark)) }
+    ensures named { OnOk result (AreNamed text.now symbols.new) }
 {
     let i = intern(text, symbols, word)?;
-    set_mark(symbols, i, mark);
+    set_mark(&mut symbols.list, i, mark);
     Ok(())
 }
 
 /// `DuplicateLabel` where the name has a place already.
 #[tactic(auto, unfolding(crate::specs::States::placed_fault), using(std::proofs::lemmas::List::get_or_default))]
-pub fn placed_fault(text: &[u8], symbols: &[Symbol], word: Word) -> Option<AsmRule>
-    ensures { result ≡ placed_fault text.now symbols.now word }
+pub fn placed_fault(text: &[u8], symbols: &Symbols, word: Word) -> Option<AsmRule>
+    requires named { AreNamed text.now symbols.now }
+    ensures is { result ≡ placed_fault text.now symbols.now.list.items word }
 {
-    match symbol_at(text, symbols, quoted(text, word.at, word.len)) {
+    match symbol_at(text, symbols, word) {
         None => None,
-        Some(i) => match symbols[i].spot {
+        Some(i) => match symbols.list[i].spot {
             None => None,
             Some(_) => Some(AsmRule::DuplicateLabel),
         },

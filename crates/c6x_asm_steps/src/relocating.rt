@@ -1,19 +1,22 @@
-ghost use Rattle.std.specs.Prelude.{◌≡◌, IfOk};
+ghost use Rattle.std.specs.Prelude.{◌≡◌, IfOk, OnOk};
+ghost use Rattle.c6x_asm_object.specs.Named.{AreNamed};
 ghost use Rattle.c6x_asm_steps.specs.States.{named_entry, relocated};
 
-use c6x_asm_object::{Entry, Symbol, intern};
+use c6x_asm_object::{Entry, Symbols, intern};
 use c6x_asm_operands::Relocation;
 use std::alloc::AllocError;
 
 /// The entry of a relocation at this offset. Its symbol is added if it is new.
 #[tactic(auto, unfolding(crate::specs::States::relocated))]
-pub fn relocate(
-    text: &[u8],
-    symbols: &mut Vec<Symbol>,
+pub fn relocate<'a>(
+    text: &'a [u8],
+    symbols: &mut Symbols<'a>,
     offset: u32,
     relocation: Option<Relocation>,
 ) -> Result<Option<Entry>, AllocError>
-    ensures { IfOk result (λ entry. relocated text.now symbols.old.items offset relocation ≡ (symbols.new.items, entry)) }
+    requires named { AreNamed text.now symbols.old }
+    ensures is { IfOk result (λ entry. relocated text.now symbols.old.list.items offset relocation ≡ (symbols.new.list.items, entry)) }
+    ensures named { OnOk result (AreNamed text.now symbols.new) }
 {
     match relocation {
         None => Ok(None),

@@ -45,16 +45,16 @@ fn numbers_fault(keyword: Keyword, parts: &[Part], now: Option<usize>) -> Option
     }
 }
 
-fn direct(
+fn direct<'a>(
     alloc: Global,
-    text: &[u8],
+    text: &'a [u8],
     keyword: Option<Keyword>,
     operands: &[Operand],
-    object: &mut Object,
+    object: &mut Object<'a>,
 ) -> Result<Result<(), AsmRule>, AllocError>
-    requires sound { IsSound object.old }
+    requires sound { IsSound text.now object.old }
     ensures is { IfOk result (λ done. Becomes done object.new (with_keyword text.now keyword operands.now (state_of object.old))) }
-    ensures sound { IfOk result (λ done. IsSound object.new) }
+    ensures sound { IfOk result (λ done. IsSound text.now object.new) }
 {
     let Some(keyword) = keyword else {
         return Ok(Err(AsmRule::UnknownWord));
@@ -68,16 +68,16 @@ fn direct(
     }
 }
 
-fn state(
+fn state<'a>(
     alloc: Global,
-    text: &[u8],
+    text: &'a [u8],
     line: u32,
     statement: &Statement,
-    object: &mut Object,
+    object: &mut Object<'a>,
 ) -> Result<Result<(), AsmRule>, AllocError>
-    requires sound { IsSound object.old }
+    requires sound { IsSound text.now object.old }
     ensures is { IfOk result (λ done. Becomes done object.new (with_statement text.now line statement.now (state_of object.old))) }
-    ensures sound { IfOk result (λ done. IsSound object.new) }
+    ensures sound { IfOk result (λ done. IsSound text.now object.new) }
 {
     let head = statement.head;
     let operands = statement.operands.as_slice();
@@ -94,16 +94,16 @@ fn state(
 }
 
 #[tactic(auto, unfolding(crate::specs::Stepping::stated))]
-fn state_any(
+fn state_any<'a>(
     alloc: Global,
-    text: &[u8],
+    text: &'a [u8],
     line: u32,
     statement: &Option<Statement>,
-    object: &mut Object,
+    object: &mut Object<'a>,
 ) -> Result<Result<(), AsmRule>, AllocError>
-    requires sound { IsSound object.old }
+    requires sound { IsSound text.now object.old }
     ensures is { IfOk result (λ done. Becomes done object.new (stated text.now line statement.now (state_of object.old))) }
-    ensures sound { IfOk result (λ done. IsSound object.new) }
+    ensures sound { IfOk result (λ done. IsSound text.now object.new) }
 {
     match statement {
         None => Ok(Ok(())),
@@ -118,15 +118,15 @@ fn state_any(
     }
 }
 
-fn label(
-    text: &[u8],
-    object: &mut Object,
+fn label<'a>(
+    text: &'a [u8],
+    object: &mut Object<'a>,
     word: Option<Word>,
 ) -> Result<Option<AsmRule>, AllocError>
-    requires sound { IsSound object.old }
+    requires sound { IsSound text.now object.old }
     ensures fault { IfOk result (λ fault. fault ≡ fault_of_label text.now (state_of object.old) word) }
     ensures after { OnOk result (state_of object.new ≡ after_label text.now (state_of object.old) word) }
-    ensures sound { IsSound object.new }
+    ensures sound { OnOk result (IsSound text.now object.new) }
 {
     match word {
         None => Ok(None),
@@ -141,16 +141,16 @@ fn label(
 /// Adds what a line says to the sections and symbols so far, or answers the lowest rule that it
 /// breaks; after that the object is of no use but for the instructions of earlier lines.
 #[tactic(auto, unfolding(crate::specs::Stepping::stepped))]
-pub fn step(
+pub fn step<'a>(
     alloc: Global,
-    text: &[u8],
+    text: &'a [u8],
     number: u32,
     line: &Line,
-    object: &mut Object,
+    object: &mut Object<'a>,
 ) -> Result<Result<(), AsmRule>, AllocError>
-    requires sound { IsSound object.old }
+    requires sound { IsSound text.now object.old }
     ensures is { IfOk result (λ done. Becomes done object.new (stepped text.now number line.now (state_of object.old))) }
-    ensures sound { IfOk result (λ done. IsSound object.new) }
+    ensures sound { IfOk result (λ done. IsSound text.now object.new) }
 {
     let fault = label(text, object, line.label)?;
     match (
