@@ -1,0 +1,11 @@
+pub mod Lists
+pub mod ReadBack
+pub mod Lengths
+pub mod NameEnds
+pub mod SymbolEntries
+pub mod RelocationEntries
+pub mod Tables
+pub mod Limited
+pub mod Places
+pub mod Keeping
+pub mod Tidy

@@ -1,0 +1,135 @@
+-- The entries of a relocation table break no rule.
+use Rattle.std.proofs.Common.{◌≡◌, ℕ, ◌+◌, ◌*◌, ◌/◌, ◌^◌, ◌<◌, ◌≤◌, Bool, true, false, cond, not, List, [], ◌∷◌, ◌++◌, None, Option, Some, length, take, nat_lt, refl, sym, ap, ◌∙◌, IfSome, lit<, subst, zero-add, arith}
+use Rattle.std.specs.Prelude.{count_by}
+use Rattle.std.specs.Int.{to_le_bytes, w32}
+use Rattle.std.specs.List.{range_with_len}
+use Rattle.std.proofs.lemmas.Bool.Decides.{nat_tests}
+use Rattle.std.proofs.lemmas.List.FromFn.{get_or-map-range_with_len}
+use Rattle.c6x_spec.specs.Numbers.{word_at}
+use Rattle.c6x_elf_heads.specs.Rules.{first_along}
+use Rattle.c6x_elf_heads.specs.declared.elf_rule.ElfRule.TheVariants.{Index}
+use Rattle.c6x_elf_heads.specs.declared.section_head.SectionHead.{SectionHead}
+use Rattle.c6x_elf_image.specs.Laid.{Holds}
+use Rattle.c6x_elf_image.proofs.Holdings.{holds_all, holds_left, holds_right}
+use Rattle.c6x_elf_image.proofs.Passing.{must_is}
+use Rattle.c6x_elf.specs.Entries.{rela_refusal, relas_refusal, symbols_in}
+use Rattle.c6x_elf.specs.declared.section.Section.{Section}
+use Rattle.c6x_elf.proofs.Moves.{both_none}
+use Rattle.c6x_asm_object.specs.declared.entry.Entry.{Entry}
+use Rattle.c6x_asm_object.specs.declared.symbol.Symbol.{Symbol}
+use Rattle.c6x_reloc.specs.declared.reloc_kind.RelocKind.{RelocKind}
+use Rattle.c6x_reloc.specs.declared.reloc_kind.RelocKind.TheVariants.{NONE, ABS32, ABS16, ABS8, PCR_S21, PCR_S12, PCR_S7, ABS_S16, ABS_L16, ABS_H16, SBR_U15_B, SBR_U15_H, SBR_U15_W, SBR_S16, SBR_L16_B, SBR_L16_H, SBR_L16_W, SBR_H16_B, SBR_H16_H, SBR_H16_W, SBR_GOT_U15_W, SBR_GOT_L16_W, SBR_GOT_H16_W, DSBT_INDEX, JUMP_SLOT, ALIGN, FPHEAD, NOCMP}
+use Rattle.c6x_asm_form.specs.Bindings.{is_local, is_other}
+use Rattle.c6x_asm_form.specs.Relocations.{info_of, kind_number, number_at, relocation_row, relocation_rows}
+use Rattle.c6x_asm_form.specs.Sound.{IsEntrySound}
+use Rattle.c6x_asm_form.specs.Symbols.{no_symbol, symbol_number, symbol_numbers, symbol_with}
+use Rattle.c6x_asm_form.proofs.Lengths.{length-relocation_row, length-relocation_rows, locals_before, others_before}
+use Rattle.c6x_asm_form.proofs.Lists.{Each}
+use Rattle.c6x_asm_form.proofs.ReadBack.{word_read}
+
+kind_below : (kind : RelocKind) → kind_number kind < 256
+kind_below NONE = lit< tt
+kind_below ABS32 = lit< tt
+kind_below ABS16 = lit< tt
+kind_below ABS8 = lit< tt
+kind_below PCR_S21 = lit< tt
+kind_below PCR_S12 = lit< tt
+kind_below PCR_S7 = lit< tt
+kind_below ABS_S16 = lit< tt
+kind_below ABS_L16 = lit< tt
+kind_below ABS_H16 = lit< tt
+kind_below SBR_U15_B = lit< tt
+kind_below SBR_U15_H = lit< tt
+kind_below SBR_U15_W = lit< tt
+kind_below SBR_S16 = lit< tt
+kind_below SBR_L16_B = lit< tt
+kind_below SBR_L16_H = lit< tt
+kind_below SBR_L16_W = lit< tt
+kind_below SBR_H16_B = lit< tt
+kind_below SBR_H16_H = lit< tt
+kind_below SBR_H16_W = lit< tt
+kind_below SBR_GOT_U15_W = lit< tt
+kind_below SBR_GOT_L16_W = lit< tt
+kind_below SBR_GOT_H16_W = lit< tt
+kind_below DSBT_INDEX = lit< tt
+kind_below JUMP_SLOT = lit< tt
+kind_below ALIGN = lit< tt
+kind_below FPHEAD = lit< tt
+kind_below NOCMP = lit< tt
+
+-- the number of a symbol is one of the table's
+local_number : (t : Bool) (n before all others total : ℕ) → (t ≡ true → before < total) → (t ≡ false → all + others < total) → cond t (1 + n + before) (1 + n + all + others) < 1 + n + total
+local_number true n before all others total local other =
+    let below : before < total = local refl in
+    omega arith
+local_number false n before all others total local other =
+    let below : all + others < total = other refl in
+    omega arith
+
+symbol_below : (sections : ℕ) (symbols : List Symbol) (i : ℕ) → i < length symbols → symbol_number sections symbols i < 1 + sections + length symbols
+unfolding symbol_number
+symbol_below sections symbols i below =
+    local_number (is_local (symbol_with symbols i)) sections (count_by is_local (take i symbols)) (count_by is_local symbols)
+    (count_by is_other (take i symbols)) (length symbols)
+    (λ is. locals_before symbols i below)
+    (λ is. others_before symbols i no_symbol below (ap not is))
+
+option_below : (sections : ℕ) (symbols : List Symbol) (o : Option ℕ) → IfSome o (λ i. i < length symbols) → number_at (symbol_numbers sections symbols) o < 1 + sections + length symbols
+unfolding symbol_numbers
+option_below sections symbols None there = omega arith
+option_below sections symbols (Some i) there =
+    let below : i < length symbols = there in
+    let is = get_or-map-range_with_len (symbol_number sections symbols) 0 (length symbols) i i 0 below (zero-add i) in
+    omega (arith, is, symbol_below sections symbols i below)
+
+pub entry_below : (sections : ℕ) (symbols : List Symbol) (e : Entry) → IsEntrySound (length symbols) e → number_at (symbol_numbers sections symbols) e.symbol < 1 + sections + length symbols
+entry_below sections symbols e sound = option_below sections symbols e.symbol sound.there
+
+-- the number above the kind
+info_fits : (symbol kind : ℕ) → kind < 256 → info_of symbol kind < 2 ^ 32
+info_fits symbol kind below = omega arith
+
+info_symbol : (symbol kind : ℕ) → kind < 256 → info_of symbol kind / 256 ≤ symbol
+info_symbol symbol kind below = omega arith
+
+info_read : (table : List ℕ) (at : ℕ) (numbers : List ℕ) (e : Entry) → Holds table at (relocation_row numbers e) → word_at false table (at + 4) ≡ info_of (number_at numbers e.symbol) (kind_number e.kind)
+unfolding relocation_row
+info_read table at numbers e h =
+    let info = info_of (number_at numbers e.symbol) (kind_number e.kind) in
+    word_read table (at + 4) info (info_fits (number_at numbers e.symbol) (kind_number e.kind) (kind_below e.kind))
+    (holds_left table (at + 4) (to_le_bytes w32 info) (to_le_bytes w32 e.addend)
+    (holds_right table at (to_le_bytes w32 e.offset) (to_le_bytes w32 info ++ to_le_bytes w32 e.addend) (at + 4) h refl))
+
+less_passes : (word info number count : ℕ) → word ≡ info → info ≤ number → number < count → nat_lt word count ≡ true
+less_passes word info number count is least below = grind (arith, nat_tests)
+
+entry_passes : (all : List Section) (head : SectionHead) (table : List ℕ) (k : ℕ) (numbers : List ℕ) (e : Entry) → Holds table (12 * k) (relocation_row numbers e) → number_at numbers e.symbol < symbols_in all head.link → rela_refusal false all head table k ≡ None
+unfolding rela_refusal
+entry_passes all head table k numbers e h below =
+    let number = number_at numbers e.symbol in
+    let reads : word_at false table (12 * k + 4) ≡ info_of number (kind_number e.kind) = info_read table (12 * k) numbers e h in
+    let least : info_of number (kind_number e.kind) / 256 ≤ number = info_symbol number (kind_number e.kind) (kind_below e.kind) in
+    let half : word_at false table (12 * k + 4) / 256 ≡ info_of number (kind_number e.kind) / 256 = ap (λ n. n / 256) reads in
+    must_is (nat_lt (word_at false table (12 * k + 4) / 256) (symbols_in all head.link)) Index (head.offset + 12 * k + 4)
+    (less_passes (word_at false table (12 * k + 4) / 256) _ (number) (symbols_in all head.link) half least below)
+
+entries_along : (all : List Section) (head : SectionHead) (table : List ℕ) (k : ℕ) (numbers : List ℕ) (entries : List Entry) → Each (λ (e : Entry). number_at numbers e.symbol < symbols_in all head.link) entries → Holds table (12 * k) (relocation_rows numbers entries) → first_along (rela_refusal false all head table) (range_with_len k (length entries)) ≡ None
+entries_along all head table k numbers [] below h = refl
+entries_along all head table k numbers (e ∷ entries) below h =
+    let row = relocation_row numbers e in
+    let rows = relocation_rows numbers entries in
+    both_none (rela_refusal false all head table k) (first_along (rela_refusal false all head table) (range_with_len (k + 1) (length entries)))
+    (entry_passes all head table k numbers e (holds_left table (12 * k) row rows h) below.0)
+    (entries_along all head table (k + 1) numbers entries below.1
+    (holds_right table (12 * k) row rows (12 * (k + 1)) h (omega (arith, length-relocation_row numbers e))))
+
+twelfth : (n : ℕ) → 12 * n / 12 ≡ n
+twelfth n = omega arith
+
+pub relocation_rows_pass : (all : List Section) (head : SectionHead) (numbers : List ℕ) (entries : List Entry) → Each (λ (e : Entry). number_at numbers e.symbol < symbols_in all head.link) entries → relas_refusal false all head (relocation_rows numbers entries) ≡ None
+unfolding relas_refusal
+relocation_rows_pass all head numbers entries below =
+    let table = relocation_rows numbers entries in
+    let count : length table / 12 ≡ length entries = ap (λ n. n / 12) (length-relocation_rows numbers entries) ∙ twelfth (length entries) in
+    subst (λ (n : ℕ). first_along (rela_refusal false all head table) (range_with_len 0 n) ≡ None) (sym count)
+    (entries_along all head table 0 numbers entries below (holds_all table))

@@ -1,0 +1,161 @@
+-- The entries of the symbol table break no rule.
+use Rattle.std.proofs.Common.{◌≡◌, ℕ, zero, suc, ◌+◌, ◌*◌, ◌/◌, ◌%◌, ◌^◌, ◌<◌, ◌≤◌, true, false, List, [], ◌∷◌, ◌++◌, None, Option, Some, length, refl, sym, ap, ◌∙◌, length-append, append_assoc, zero-add, subst, IfSome, inl, inr, arith}
+use Rattle.c6x_asm_object.specs.Symbols.{symbol_name}
+use Rattle.std.specs.Int.{to_le_bytes, w16, w32}
+use Rattle.std.proofs.lemmas.Bool.Decides.{nat_tests}
+use Rattle.std.specs.Prelude.{filter}
+use Rattle.std.specs.List.{range_with_len}
+use Rattle.c6x_spec.specs.Numbers.{half_at, word_at}
+use Rattle.c6x_elf_heads.specs.Rules.{first_along, must}
+use Rattle.c6x_elf_heads.specs.declared.elf_rule.ElfRule.TheVariants.{Index}
+use Rattle.c6x_elf_heads.specs.declared.section_head.SectionHead.{SectionHead}
+use Rattle.c6x_elf_image.specs.Laid.{Holds}
+use Rattle.c6x_elf_image.proofs.Holdings.{holds_left, holds_right, holds_all}
+use Rattle.c6x_elf_image.proofs.Passing.{must_is}
+use Rattle.c6x_elf.specs.Entries.{is_section_number, name_refusal, symbol_refusal, symbols_refusal, text_of}
+use Rattle.c6x_elf.specs.declared.section.Section.{Section}
+use Rattle.c6x_elf.proofs.Moves.{both_none}
+use Rattle.c6x_asm_object.specs.declared.spot.Spot.{Spot}
+use Rattle.c6x_asm_object.specs.declared.symbol.Symbol.{Symbol}
+use Rattle.c6x_asm_form.specs.Bindings.{binding, is_local, is_other, spot_or_none, visibility}
+use Rattle.c6x_asm_form.specs.Sound.{IsSpotSound, IsSymbolSound}
+use Rattle.c6x_asm_form.specs.Symbols.{entry_row, name_rows, name_table, ordered, section_rows, symbol_row, symbol_rows, symbol_table}
+use Rattle.c6x_asm_form.proofs.Lengths.{length-entry_row, length-ordered, length-section_rows, length-symbol_table}
+use Rattle.c6x_asm_form.proofs.Lists.{Each, each_append, each_filter, first_append}
+use Rattle.c6x_asm_form.proofs.NameEnds.{HasName, name_held, name_passes}
+use Rattle.c6x_asm_form.proofs.ReadBack.{half_read, word_read}
+
+-- the numbers of an entry that is held
+name_read : (table : List ℕ) (at name value size info other section : ℕ) → name < 2 ^ 32 → Holds table at (entry_row name value size info other section) → word_at false table at ≡ name
+unfolding entry_row
+name_read table at name value size info other section fits h = word_read table at name fits (holds_left table at (to_le_bytes w32 name) _ h)
+
+place_read : (table : List ℕ) (at name value size info other section : ℕ) → Holds table at (entry_row name value size info other section) → half_at false table (at + 14) ≡ section % 65536
+unfolding entry_row
+place_read table at name value size info other section h =
+    let last = to_le_bytes w16 (section % 65536) in
+    let front = to_le_bytes w32 name ++ (to_le_bytes w32 value ++ (to_le_bytes w32 size ++ (info ∷ other ∷ []))) in
+    half_read table (at + 14) (section % 65536) (omega arith) (holds_right table at front last (at + 14) h refl)
+
+-- What an entry's name and section number keep, where there are so many sections.
+record Passable (count : ℕ) (strings : List ℕ) (name section : ℕ) : Type 0 where
+  named : HasName strings name
+  place : is_section_number count (section % 65536) ≡ true
+
+entry_passes : (all : List Section) (head : SectionHead) (table strings : List ℕ) (k name value size info other section : ℕ) → text_of all head.link ≡ strings → length strings < 2 ^ 32 → Holds table (16 * k) (entry_row name value size info other section) → Passable (length all) strings name section → symbol_refusal false all head table k ≡ None
+unfolding symbol_refusal
+entry_passes all head table strings k name value size info other section linked few h passable =
+    let below : name < length strings = passable.named.below in
+    let reads : word_at false table (16 * k) ≡ name = name_read table (16 * k) name value size info other section (omega arith) h in
+    let section_is : half_at false table (16 * k + 14) ≡ section % 65536 = place_read table (16 * k) name value size info other section h in
+    both_none (name_refusal (text_of all head.link) (word_at false table (16 * k)) (head.offset + 16 * k))
+    (must (is_section_number (length all) (half_at false table (16 * k + 14))) Index (head.offset + 16 * k + 14))
+    (ap (λ xs. name_refusal xs (word_at false table (16 * k)) (head.offset + 16 * k)) linked
+    ∙ ap (λ n. name_refusal strings n (head.offset + 16 * k)) reads
+    ∙ name_passes strings name (head.offset + 16 * k) passable.named)
+    (must_is (is_section_number (length all) (half_at false table (16 * k + 14))) Index (head.offset + 16 * k + 14)
+    (ap (is_section_number (length all)) section_is ∙ passable.place))
+
+number_below : (count number : ℕ) → number < count → is_section_number count number ≡ true
+unfolding is_section_number
+number_below count number below = grind (arith, nat_tests)
+
+number_reserved : (count number : ℕ) → 65280 ≤ number → is_section_number count number ≡ true
+unfolding is_section_number
+number_reserved count number above = grind (arith, nat_tests)
+
+-- the symbols of the sections
+sections_along : (all : List Section) (head : SectionHead) (table strings : List ℕ) (k number count : ℕ) → text_of all head.link ≡ strings → length strings < 2 ^ 32 → HasName strings 0 → number + count ≤ length all → length all ≤ 4096 → Holds table (16 * k) (section_rows number count) → first_along (symbol_refusal false all head table) (range_with_len k count) ≡ None
+sections_along all head table strings k number zero linked few has within most h = refl
+sections_along all head table strings k number (suc count) linked few has within most h =
+    let row = entry_row 0 0 0 3 0 number in
+    let place : number % 65536 ≡ number = omega arith in
+    both_none (symbol_refusal false all head table k) (first_along (symbol_refusal false all head table) (range_with_len (k + 1) count))
+    (entry_passes all head table strings k 0 0 0 3 0 number linked few (holds_left table (16 * k) row (section_rows (number + 1) count) h)
+    (record { named = has; place = ap (is_section_number (length all)) place ∙ number_below (length all) number (omega arith) }))
+    (sections_along all head table strings (k + 1) (number + 1) count linked few has (omega arith) most
+    (holds_right table (16 * k) row (section_rows (number + 1) count) (16 * (k + 1)) h (omega (arith, length-entry_row 0 0 0 3 0 number))))
+
+-- a sound place
+spot_number : (sections count : ℕ) (spot : Spot) → sections < count → count ≤ 4096 → IsSpotSound sections spot → is_section_number count (spot.section % 65536) ≡ true
+spot_number sections count spot below most (inl few) =
+    let is : spot.section % 65536 ≡ spot.section = omega arith in
+    ap (is_section_number count) is ∙ number_below count spot.section (omega arith)
+spot_number sections count spot below most (inr reserved) =
+    let from : 65280 ≤ spot.section = reserved.0 in
+    let to : spot.section < 65536 = reserved.1 in
+    let is : spot.section % 65536 ≡ spot.section = omega arith in
+    ap (is_section_number count) is ∙ number_reserved count spot.section from
+
+option_number : (sections count : ℕ) (spot : Option Spot) → sections < count → count ≤ 4096 → IfSome spot (IsSpotSound sections) → is_section_number count ((spot_or_none spot).section % 65536) ≡ true
+option_number sections count None below most sound = number_below count 0 (omega arith)
+option_number sections count (Some spot) below most sound = spot_number sections count spot below most sound
+
+-- the symbols of names
+symbols_along : (all : List Section) (head : SectionHead) (table strings text : List ℕ) (k at sections : ℕ) (symbols : List Symbol) → text_of all head.link ≡ strings → length strings < 2 ^ 32 → sections < length all → length all ≤ 4096 → Each (IsSymbolSound sections) symbols → Holds strings at (name_rows text symbols) → Holds table (16 * k) (symbol_rows text at symbols) → first_along (symbol_refusal false all head table) (range_with_len k (length symbols)) ≡ None
+symbols_along all head table strings text k at sections [] linked few below most sound names h = refl
+symbols_along all head table strings text k at sections (s ∷ symbols) linked few below most sound names h =
+    let name = symbol_name text s in
+    let next = at + (length name + 1) in
+    let row = symbol_row at s in
+    let spot = spot_or_none s.spot in
+    let ends : at + length (name ++ (0 ∷ [])) ≡ next = ap (λ n. at + n) (length-append name (0 ∷ [])) in
+    let P : List ℕ → Type 0 = λ xs. Holds strings at xs in
+    let later : Holds strings at ((name ++ (0 ∷ [])) ++ name_rows text symbols) = subst P (sym (append_assoc name (0 ∷ []) (name_rows text symbols))) names in
+    both_none (symbol_refusal false all head table k) (first_along (symbol_refusal false all head table) (range_with_len (k + 1) (length symbols)))
+    (entry_passes all head table strings k at spot.value spot.size (16 * binding s) (visibility s) spot.section linked few
+    (holds_left table (16 * k) row (symbol_rows text next symbols) h)
+    (record {
+      named = name_held strings at name (name_rows text symbols) names;
+      place = option_number sections (length all) s.spot below most sound.0.place;
+    }))
+    (symbols_along all head table strings text (k + 1) next sections symbols linked few below most sound.1
+    (holds_right strings at (name ++ (0 ∷ [])) (name_rows text symbols) next later ends)
+    (holds_right table (16 * k) row (symbol_rows text next symbols) (16 * (k + 1)) h
+    (omega (arith, length-entry_row at spot.value spot.size (16 * binding s) (visibility s) spot.section))))
+
+ordered_sound : (sections : ℕ) (symbols : List Symbol) → Each (IsSymbolSound sections) symbols → Each (IsSymbolSound sections) (ordered symbols)
+unfolding ordered
+ordered_sound sections symbols sound =
+    each_append (IsSymbolSound sections) (filter is_local symbols) (filter is_other symbols)
+    (each_filter (IsSymbolSound sections) is_local symbols sound) (each_filter (IsSymbolSound sections) is_other symbols sound)
+
+-- the table of the names, and that of the symbols, as a whole
+table_along : (all : List Section) (head : SectionHead) (table text : List ℕ) (sections : ℕ) (symbols : List Symbol) → text_of all head.link ≡ name_table text symbols → length (name_table text symbols) < 2 ^ 32 → sections < length all → length all ≤ 4096 → Each (IsSymbolSound sections) symbols → table ≡ symbol_table text sections symbols → first_along (symbol_refusal false all head table) (range_with_len 0 (1 + sections + length symbols)) ≡ None
+unfolding symbol_table name_table
+table_along all head table text sections symbols linked few below most sound is =
+    let strings = 0 ∷ name_rows text (ordered symbols) in
+    let rows = symbol_rows text 1 (ordered symbols) in
+    let marks = section_rows 1 sections in
+    let row = entry_row 0 0 0 0 0 0 in
+    let test = symbol_refusal false all head table in
+    let all_names : Holds strings 0 strings = holds_all strings in
+    let has : HasName strings 0 = name_held strings 0 [] (name_rows text (ordered symbols)) all_names in
+    let names : Holds strings 1 (name_rows text (ordered symbols)) = holds_right strings 0 (0 ∷ []) (name_rows text (ordered symbols)) 1 all_names refl in
+    let P : List ℕ → Type 0 = λ xs. Holds table 0 xs in
+    let whole : Holds table 0 (row ++ (marks ++ rows)) = subst P is (holds_all table) in
+    let later : Holds table 16 (marks ++ rows) = holds_right table 0 row (marks ++ rows) 16 whole (omega (arith, length-entry_row 0 0 0 0 0 0)) in
+    let last : Holds table (16 * (1 + sections)) rows = holds_right table 16 marks rows (16 * (1 + sections)) later (omega (arith, length-section_rows 1 sections)) in
+    let first : first_along test (range_with_len 0 1) ≡ None =
+    both_none (test 0) None
+    (entry_passes all head table strings 0 0 0 0 0 0 0 linked few (holds_left table 0 row (marks ++ rows) whole)
+    (record { named = has; place = number_below (length all) 0 (omega arith) })) refl in
+    let second : first_along test (range_with_len (0 + 1) sections) ≡ None =
+    sections_along all head table strings 1 1 sections linked few has (omega arith) most (holds_left table 16 marks rows later) in
+    let third : first_along test (range_with_len (0 + (1 + sections)) (length (ordered symbols))) ≡ None =
+    subst (λ (k : ℕ). first_along test (range_with_len k (length (ordered symbols))) ≡ None) (sym (zero-add (1 + sections)))
+    (symbols_along all head table strings text (1 + sections) 1 sections (ordered symbols) linked few below most (ordered_sound sections symbols sound) names last) in
+    subst (λ (n : ℕ). first_along test (range_with_len 0 (1 + sections + n)) ≡ None) (length-ordered symbols)
+    (first_append test 0 (1 + sections) (length (ordered symbols)) (first_append test 0 1 sections first second) third)
+
+sixteenth : (n : ℕ) → 16 * n / 16 ≡ n
+sixteenth n = omega arith
+
+pub symbol_table_passes : (all : List Section) (head : SectionHead) (text : List ℕ) (sections : ℕ) (symbols : List Symbol) → text_of all head.link ≡ name_table text symbols → length (name_table text symbols) < 2 ^ 32 → sections < length all → length all ≤ 4096 → Each (IsSymbolSound sections) symbols → symbols_refusal false all head (symbol_table text sections symbols) ≡ None
+unfolding symbols_refusal
+symbol_table_passes all head text sections symbols linked few below most sound =
+    let table = symbol_table text sections symbols in
+    let count : length table / 16 ≡ 1 + sections + length symbols =
+    ap (λ n. n / 16) (length-symbol_table text sections symbols) ∙ sixteenth (1 + sections + length symbols) in
+    subst (λ (n : ℕ). first_along (symbol_refusal false all head table) (range_with_len 0 n) ≡ None) (sym count)
+    (table_along all head table text sections symbols linked few below most sound refl)

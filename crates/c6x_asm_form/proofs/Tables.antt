@@ -1,0 +1,183 @@
+-- The sections of an object one by one: sizes, fields and entries.
+use Rattle.std.proofs.Common.{◌≡◌, ℕ, ◌+◌, ◌*◌, ◌%◌, ◌<◌, ◌≤◌, ◌==◌, true, false, cond, List, [], None, length, nat_lt, refl, sym, ap, ◌∙◌, subst, arith}
+use Rattle.std.proofs.lemmas.Bool.Decides.{nat_tests}
+use Rattle.c6x_elf_heads.specs.Rules.{must}
+use Rattle.c6x_elf.specs.Entries.{entries_refusal, rela_refusal, relas_refusal, symbol_refusal, symbols_in, symbols_refusal, text_of}
+use Rattle.c6x_elf.specs.Form.{IsSized, own_head}
+use Rattle.c6x_elf.specs.Parts.{fields_refusal, has_bytes, has_entries, has_target, is_linked, is_relocation_table, is_symbol_table, section_size}
+use Rattle.c6x_elf.specs.Writing.{section_head_at}
+use Rattle.c6x_elf.specs.declared.section.Section.{Section}
+use Rattle.c6x_asm_object.specs.Parts.{is_zero}
+use Rattle.c6x_asm_object.specs.declared.entry.Entry.{Entry}
+use Rattle.c6x_asm_object.specs.declared.part.Part.{Part}
+use Rattle.c6x_asm_object.specs.declared.part_kind.PartKind.{PartKind}
+use Rattle.c6x_asm_object.specs.declared.part_kind.PartKind.TheVariants.{Text, Constant, Zero, Data}
+use Rattle.c6x_asm_object.specs.declared.symbol.Symbol.{Symbol}
+use Rattle.c6x_asm_form.specs.Headers.{null_section, part_section, part_type, table_section}
+use Rattle.c6x_asm_form.specs.Relocations.{number_at, relocation_rows}
+use Rattle.c6x_asm_form.specs.Sound.{IsPartSound, IsSymbolSound}
+use Rattle.c6x_asm_form.specs.Symbols.{name_table, symbol_table}
+use Rattle.c6x_asm_form.proofs.Lengths.{length-relocation_rows, length-symbol_table}
+use Rattle.c6x_asm_form.proofs.Lists.{Each}
+use Rattle.c6x_asm_form.proofs.RelocationEntries.{relocation_rows_pass}
+use Rattle.c6x_asm_form.proofs.SymbolEntries.{symbol_table_passes}
+
+-- What a section keeps but for its name, where there are so many sections.
+pub record Keeps (count : ℕ) (all : List Section) (section : Section) : Type 0 where
+  pub sized : IsSized section
+  pub fields : fields_refusal count (own_head section) ≡ None
+  pub entries : entries_refusal false all (own_head section) section.bytes ≡ None
+
+-- a section under another name keeps the same
+sized_renamed : (name : ℕ) (section : Section) → IsSized section → IsSized (record section { name = name })
+unfolding section_size section_head_at
+sized_renamed name section sized = record { size = sized.size }
+
+fields_renamed : (count name : ℕ) (section : Section) → fields_refusal count (own_head section) ≡ None → fields_refusal count (own_head (record section { name = name })) ≡ None
+unfolding fields_refusal section_head_at
+fields_renamed count name section kept = kept
+
+entries_renamed : (all : List Section) (name : ℕ) (section : Section) → entries_refusal false all (own_head section) section.bytes ≡ None → entries_refusal false all (own_head (record section { name = name })) section.bytes ≡ None
+unfolding entries_refusal symbols_refusal relas_refusal symbol_refusal rela_refusal section_head_at
+entries_renamed all name section kept = kept
+
+pub keeps_renamed : (count : ℕ) (all : List Section) (name : ℕ) (section : Section) → Keeps count all section → Keeps count all (record section { name = name })
+keeps_renamed count all name section keeps = record {
+  sized = sized_renamed name section keeps.sized;
+  fields = fields_renamed count name section keeps.fields;
+  entries = entries_renamed all name section keeps.entries;
+}
+
+-- a section of the text
+part_sized : (kind : PartKind) (size : ℕ) (bytes : List ℕ) → (is_zero kind ≡ true → bytes ≡ []) → (is_zero kind ≡ false → length bytes ≡ size) → length bytes ≡ cond (has_bytes (part_type kind)) size 0
+unfolding has_bytes
+part_sized Text size bytes zeros full = full refl
+part_sized Constant size bytes zeros full = full refl
+part_sized Zero size bytes zeros full = ap length (zeros refl)
+part_sized Data size bytes zeros full = full refl
+
+plain_type : (kind : PartKind) → (is_symbol_table (part_type kind) ≡ false) × (is_relocation_table (part_type kind) ≡ false)
+unfolding is_symbol_table is_relocation_table
+plain_type Text = (refl, refl)
+plain_type Constant = (refl, refl)
+plain_type Zero = (refl, refl)
+plain_type Data = (refl, refl)
+
+-- a section that is no table of symbols or relocations has no rules
+plain_fields : (count : ℕ) (section : Section) → is_symbol_table section.kind ≡ false → is_relocation_table section.kind ≡ false → fields_refusal count (own_head section) ≡ None
+unfolding fields_refusal section_head_at is_linked has_target has_entries must
+plain_fields count section symbols relas = rw (symbols, relas) refl
+
+plain_entries : (all : List Section) (section : Section) → is_symbol_table section.kind ≡ false → is_relocation_table section.kind ≡ false → entries_refusal false all (own_head section) section.bytes ≡ None
+unfolding entries_refusal section_head_at
+plain_entries all section symbols relas = rw (symbols, relas) refl
+
+pub part_keeps : (count names : ℕ) (all : List Section) (p : Part) → IsPartSound names p → Keeps count all (part_section p)
+unfolding part_section section_size section_head_at
+part_keeps count names all p sound = record {
+  sized = record { size = part_sized p.kind p.size p.bytes sound.zeros sound.full };
+  fields = plain_fields count (part_section p) (plain_type p.kind).0 (plain_type p.kind).1;
+  entries = plain_entries all (part_section p) (plain_type p.kind).0 (plain_type p.kind).1;
+}
+
+-- a number of a header
+fits : (n : ℕ) → n < 4294967296 → n % 4294967296 ≡ n
+fits n below = omega arith
+
+table_sized : (kind link info align entsize : ℕ) (bytes : List ℕ) → has_bytes kind ≡ true → length bytes < 4294967296 → IsSized (table_section kind link info align entsize bytes)
+unfolding table_section section_size section_head_at
+table_sized kind link info align entsize bytes has below = record {
+  size = rw has (sym (fits (length bytes) below));
+}
+
+has_bytes_in : (kind : ℕ) → kind < 5 → 0 < kind → has_bytes kind ≡ true
+unfolding has_bytes
+has_bytes_in kind below above = grind (arith, nat_tests)
+
+table_kind : (kind link info align entsize : ℕ) (bytes : List ℕ) → (table_section kind link info align entsize bytes).kind ≡ kind
+unfolding table_section
+table_kind kind link info align entsize bytes = refl
+
+pub table_bytes : (kind link info align entsize : ℕ) (bytes : List ℕ) → (table_section kind link info align entsize bytes).bytes ≡ bytes
+unfolding table_section
+table_bytes kind link info align entsize bytes = refl
+
+-- a table of names
+pub strings_keep : (count : ℕ) (all : List Section) (bytes : List ℕ) → length bytes < 4294967296 → Keeps count all (table_section 3 0 0 1 0 bytes)
+unfolding table_section is_symbol_table is_relocation_table has_bytes
+strings_keep count all bytes below = record {
+  sized = table_sized 3 0 0 1 0 bytes refl below;
+  fields = plain_fields count (table_section 3 0 0 1 0 bytes) refl refl;
+  entries = plain_entries all (table_section 3 0 0 1 0 bytes) refl refl;
+}
+
+pub null_keeps : (count : ℕ) (all : List Section) → Keeps count all null_section
+unfolding null_section table_section is_symbol_table is_relocation_table has_bytes section_size section_head_at
+null_keeps count all = record {
+  sized = record { size = refl };
+  fields = plain_fields count null_section refl refl;
+  entries = plain_entries all null_section refl refl;
+}
+
+-- whole entries of a table that is no longer than its header can say
+sixteens : (count size : ℕ) → size ≡ 16 * count → size < 4294967296 → (size % 4294967296 % 16 == 0) ≡ true
+sixteens count size is below =
+    let whole : size % 4294967296 % 16 ≡ 0 = omega arith in
+    grind (arith, nat_tests)
+
+twelves : (count size : ℕ) → size ≡ 12 * count → size < 4294967296 → (size % 4294967296 % 12 == 0) ≡ true
+twelves count size is below =
+    let whole : size % 4294967296 % 12 ≡ 0 = omega arith in
+    grind (arith, nat_tests)
+
+less : (n count : ℕ) → n < count → count ≤ 4096 → nat_lt (n % 4294967296) count ≡ true
+less n count below most =
+    let is : n % 4294967296 ≡ n = omega arith in
+    grind (arith, nat_tests)
+
+symbols_fields : (count link info : ℕ) (bytes : List ℕ) → nat_lt (link % 4294967296) count ≡ true → (length bytes % 4294967296 % 16 == 0) ≡ true → fields_refusal count (own_head (table_section 2 link info 4 16 bytes)) ≡ None
+unfolding fields_refusal table_section section_head_at is_linked has_target has_entries is_symbol_table is_relocation_table must
+symbols_fields count link info bytes linked whole = rw (linked, whole) refl
+
+relas_fields : (count link info : ℕ) (bytes : List ℕ) → nat_lt (link % 4294967296) count ≡ true → nat_lt (info % 4294967296) count ≡ true → (length bytes % 4294967296 % 12 == 0) ≡ true → fields_refusal count (own_head (table_section 4 link info 4 12 bytes)) ≡ None
+unfolding fields_refusal table_section section_head_at is_linked has_target has_entries is_symbol_table is_relocation_table must
+relas_fields count link info bytes linked target whole = rw (linked, target, whole) refl
+
+symbols_entries : (all : List Section) (link info : ℕ) (bytes : List ℕ) → symbols_refusal false all (own_head (table_section 2 link info 4 16 bytes)) bytes ≡ None → entries_refusal false all (own_head (table_section 2 link info 4 16 bytes)) (table_section 2 link info 4 16 bytes).bytes ≡ None
+unfolding entries_refusal table_section section_head_at is_symbol_table
+symbols_entries all link info bytes kept = kept
+
+relas_entries : (all : List Section) (link info : ℕ) (bytes : List ℕ) → relas_refusal false all (own_head (table_section 4 link info 4 12 bytes)) bytes ≡ None → entries_refusal false all (own_head (table_section 4 link info 4 12 bytes)) (table_section 4 link info 4 12 bytes).bytes ≡ None
+unfolding entries_refusal table_section section_head_at is_symbol_table is_relocation_table
+relas_entries all link info bytes kept = kept
+
+table_link : (kind link info align entsize : ℕ) (bytes : List ℕ) → link < 4294967296 → (own_head (table_section kind link info align entsize bytes)).link ≡ link
+unfolding table_section section_head_at
+table_link kind link info align entsize bytes below = fits link below
+
+-- the table of the symbols
+pub symbols_keep : (all : List Section) (link info : ℕ) (text : List ℕ) (sections : ℕ) (symbols : List Symbol) → length all ≤ 4096 → link < length all → sections < length all → text_of all link ≡ name_table text symbols → length (name_table text symbols) < 4294967296 → length (symbol_table text sections symbols) < 4294967296 → Each (IsSymbolSound sections) symbols → Keeps (length all) all (table_section 2 link info 4 16 (symbol_table text sections symbols))
+symbols_keep all link info text sections symbols most below inside linked names few sound =
+    let bytes = symbol_table text sections symbols in
+    let head = own_head (table_section 2 link info 4 16 bytes) in
+    record {
+      sized = table_sized 2 link info 4 16 bytes (has_bytes_in 2 (omega arith) (omega arith)) few;
+      fields = symbols_fields (length all) link info bytes (less link (length all) below most)
+          (sixteens (1 + sections + length symbols) (length bytes) (length-symbol_table text sections symbols) few);
+      entries = symbols_entries all link info bytes
+          (symbol_table_passes all head text sections symbols (ap (text_of all) (table_link 2 link info 4 16 bytes (omega arith)) ∙ linked) names inside most sound);
+    }
+
+-- the relocations of a section
+pub relas_keep : (all : List Section) (link info : ℕ) (numbers : List ℕ) (entries : List Entry) → length all ≤ 4096 → link < length all → info < length all → length (relocation_rows numbers entries) < 4294967296 → Each (λ (e : Entry). number_at numbers e.symbol < symbols_in all link) entries → Keeps (length all) all (table_section 4 link info 4 12 (relocation_rows numbers entries))
+relas_keep all link info numbers entries most below inside few sound =
+    let bytes = relocation_rows numbers entries in
+    let head = own_head (table_section 4 link info 4 12 bytes) in
+    let P : ℕ → Type 0 = λ l. Each (λ (e : Entry). number_at numbers e.symbol < symbols_in all l) entries in
+    record {
+      sized = table_sized 4 link info 4 12 bytes (has_bytes_in 4 (omega arith) (omega arith)) few;
+      fields = relas_fields (length all) link info bytes (less link (length all) below most) (less info (length all) inside most)
+          (twelves (length entries) (length bytes) (length-relocation_rows numbers entries) few);
+      entries = relas_entries all link info bytes
+          (relocation_rows_pass all head numbers entries (subst P (sym (table_link 4 link info 4 12 bytes (omega arith))) sound));
+    }

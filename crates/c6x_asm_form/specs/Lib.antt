@@ -1,0 +1,7 @@
+pub mod Bindings
+pub mod Symbols
+pub mod Relocations
+pub mod Headers
+pub mod Filing
+pub mod Limits
+pub mod Sound
