@@ -1,0 +1,119 @@
+use crate::{is_large, is_large_with, weight_of};
+use c6x_asm_object::{Entry, Items, Part, PartKind, Symbol};
+use c6x_reloc::RelocKind;
+use std::alloc::{AllocError, Global};
+use std::test::Fail;
+
+// A section named by the first five bytes of the text.
+fn part(alloc: Global, kind: PartKind, size: u32) -> Result<Part, AllocError> {
+    let mut bytes = Items::new(alloc);
+    if kind != PartKind::Zero {
+        bytes.extend_zeros(size)?;
+    }
+    Ok(Part {
+        at: 0,
+        len: 5,
+        kind,
+        align: 8,
+        size,
+        bytes,
+        entries: Items::new(alloc),
+        slots: Items::new(alloc),
+        last: None,
+    })
+}
+
+#[test]
+fn a_small_text(rt: HostRuntime) -> Result<(), Fail> {
+    let alloc = rt.alloc();
+    let parts = vec![in alloc;
+        part(alloc, PartKind::Data, 10)?,
+        part(alloc, PartKind::Zero, 1_048_576)?,
+    ]?;
+    assert!(rt; !is_large(b".text", &parts, &[], 0));
+    Ok(())
+}
+
+#[test]
+fn a_long_section(rt: HostRuntime) -> Result<(), Fail> {
+    let alloc = rt.alloc();
+    let parts = vec![in alloc; part(alloc, PartKind::Zero, 1_048_577)?]?;
+    assert!(rt; is_large(b".text", &parts, &[], 0));
+    Ok(())
+}
+
+#[test]
+fn many_sections(rt: HostRuntime) -> Result<(), Fail> {
+    let alloc = rt.alloc();
+    let mut parts = Vec::new(alloc);
+    for _ in 0..4_092 {
+        parts.push(part(alloc, PartKind::Zero, 0)?)?;
+    }
+    assert!(rt; !is_large(b".text", &parts, &[], 0));
+    parts.push(part(alloc, PartKind::Zero, 0)?)?;
+    assert!(rt; is_large(b".text", &parts, &[], 0));
+    Ok(())
+}
+
+// 87,000 relocations of each of four sections take 4,176,000 bytes, and behind the 56 bytes of the file header
+// come the fifth section, `.symtab` of 96 bytes, `.strtab` of 1, `.shstrtab` of 101, and 13 headers of 40.
+fn is_long_file(alloc: Global, size: u32) -> Result<bool, AllocError> {
+    let mut parts = Vec::new(alloc);
+    for _ in 0..4 {
+        let mut entries = Items::new(alloc);
+        for _ in 0..87_000 {
+            entries.push(Entry {
+                offset: 0,
+                kind: RelocKind::ABS32,
+                symbol: None,
+                addend: 0,
+            })?;
+        }
+        parts.push(Part {
+            entries,
+            ..part(alloc, PartKind::Zero, 0)?
+        })?;
+    }
+    parts.push(part(alloc, PartKind::Data, size)?)?;
+    Ok(is_large(b".text", &parts, &[], 0))
+}
+
+#[test]
+fn a_long_file(rt: HostRuntime) -> Result<(), Fail> {
+    assert!(rt; !is_long_file(rt.alloc(), 17_528)?);
+    assert!(rt; is_long_file(rt.alloc(), 17_529)?);
+    Ok(())
+}
+
+#[test]
+#[tactic(auto, unfolding(c6x_asm_directives::specs::Directives::quoted))]
+fn a_name(rt: HostRuntime) -> Result<(), Fail> {
+    let alloc = rt.alloc();
+    let parts = vec![in alloc; part(alloc, PartKind::Data, 10)?]?;
+    let symbol = Symbol {
+        at: 1,
+        len: 2,
+        spot: None,
+        global: false,
+        weak: false,
+        hidden: false,
+    };
+    let symbols = vec![in alloc; symbol]?;
+    assert!(rt; !is_large(b".text", &parts, &symbols, 3));
+    Ok(())
+}
+
+#[test]
+fn a_known_weight(rt: HostRuntime) -> Result<(), Fail> {
+    let alloc = rt.alloc();
+    let mut parts = vec![in alloc;
+        part(alloc, PartKind::Data, 10)?,
+        part(alloc, PartKind::Zero, 1_048_576)?,
+    ]?;
+    let weight = weight_of(b".text", &parts);
+    assert!(rt; !is_large_with(b".text", &parts, &[], 0, weight));
+    parts.push(part(alloc, PartKind::Zero, 1_048_577)?)?;
+    let weight = weight_of(b".text", &parts);
+    assert!(rt; is_large_with(b".text", &parts, &[], 0, weight));
+    Ok(())
+}
