@@ -1,5 +1,5 @@
 ghost use Rattle.std.specs.Prelude.{◌≡◌};
-ghost use Rattle.c6x_asm_file.specs.Kinds.{kind_number};
+ghost use Rattle.c6x_asm_form.specs.Relocations.{kind_number};
 
 use c6x_reloc::RelocKind;
 

@@ -1,6 +1,6 @@
 ghost use Rattle.std.specs.Prelude.{◌≡◌, ◌+◌, ◌<◌, ◌≤◌, ◌^◌, count_by, length, IfOk};
-ghost use Rattle.c6x_asm_tables.specs.Symbols.{is_local};
-ghost use Rattle.c6x_asm_file.specs.Numbers.{symbol_numbers};
+ghost use Rattle.c6x_asm_form.specs.Bindings.{is_local};
+ghost use Rattle.c6x_asm_form.specs.Symbols.{symbol_numbers};
 
 use c6x_asm_object::Symbol;
 use c6x_asm_tables::is_local;
@@ -14,7 +14,7 @@ fn count_local(symbols: &[Symbol]) -> usize
 }
 
 /// The number of each symbol in the table of an object with so many sections.
-#[tactic(auto, unfolding(crate::specs::Numbers::symbol_numbers))]
+#[tactic(auto, unfolding(c6x_asm_form::specs::Symbols::symbol_numbers), using(crate::proofs::Counts::number_local, crate::proofs::Counts::number_other, crate::proofs::Counts::numbers_more, crate::proofs::Counts::local_yes, crate::proofs::Counts::local_no, crate::proofs::Counts::other_yes, crate::proofs::Counts::other_no))]
 pub fn symbol_numbers(
     alloc: Global,
     sections: usize,
@@ -27,12 +27,13 @@ pub fn symbol_numbers(
     let mut local = 1 + sections;
     let mut other = 1 + sections + count_local(symbols);
     for symbol in symbols {
-        let is = is_local(*symbol);
-        numbers
-            .push(if is { local } else { other })
-            .map_err(AllocError::from)?;
-        local = if is { local + 1 } else { local };
-        other = if is { other } else { other + 1 };
+        if is_local(*symbol) {
+            numbers.push(local).map_err(AllocError::from)?;
+            local += 1;
+        } else {
+            numbers.push(other).map_err(AllocError::from)?;
+            other += 1;
+        }
     }
     Ok(numbers)
 }

@@ -1,5 +1,5 @@
-ghost use Rattle.std.specs.Prelude.{◌≡◌, ◌<◌, ◌^◌, IfOk, OnOk};
-ghost use Rattle.c6x_asm_file.specs.Relocations.{number_at, info_of, relocation_behind, relocation_table};
+ghost use Rattle.std.specs.Prelude.{◌≡◌, ◌++◌, IfOk, OnOk};
+ghost use Rattle.c6x_asm_form.specs.Relocations.{number_at, info_of, relocation_row, relocation_rows};
 
 use crate::kinds::kind_number;
 use c6x_asm_object::{Entry, Items};
@@ -20,9 +20,9 @@ fn info_of(symbol: usize, kind: u8) -> u32
     (symbol % 16_777_216) as u32 * 256 + u32::from(kind)
 }
 
-#[tactic(auto, unfolding(crate::specs::Relocations::relocation_behind))]
+#[tactic(auto, using(crate::proofs::Rows::row_put))]
 fn put_relocation(numbers: &[usize], bytes: &mut Items<u8>, entry: Entry) -> Result<(), AllocError>
-    ensures { OnOk result (bytes.new ≡ relocation_behind numbers.now bytes.old entry) }
+    ensures { OnOk result (bytes.new ≡ bytes.old ++ relocation_row numbers.now entry) }
 {
     let info = info_of(number_at(numbers, entry.symbol), kind_number(entry.kind));
     bytes.extend(&entry.offset.to_le_bytes())?;
@@ -31,13 +31,13 @@ fn put_relocation(numbers: &[usize], bytes: &mut Items<u8>, entry: Entry) -> Res
 }
 
 /// The relocation table of a section; `numbers` are those of the symbols.
-#[tactic(auto, unfolding(crate::specs::Relocations::relocation_table))]
+#[tactic(auto, using(crate::proofs::Rows::rows_at, crate::proofs::Rows::rows_end))]
 pub fn relocation_table(
     alloc: Global,
     numbers: &[usize],
     entries: &[Entry],
 ) -> Result<Items<u8>, AllocError>
-    ensures { IfOk result (λ bytes. bytes ≡ relocation_table numbers.now entries.now) }
+    ensures { IfOk result (λ bytes. bytes ≡ relocation_rows numbers.now entries.now) }
 {
     let mut bytes = Items::new(alloc);
     for entry in entries {

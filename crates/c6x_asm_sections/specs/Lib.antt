@@ -1,3 +1,1 @@
-pub mod Sections
-pub mod Filing
-pub mod Built
+pub mod Adding

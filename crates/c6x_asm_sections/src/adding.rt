@@ -1,6 +1,6 @@
-ghost use Rattle.std.specs.Prelude.{◌≡◌, ◌+◌, ◌<◌, ◌≤◌, [], length, codes, vec_len, OnOk};
-ghost use Rattle.c6x_asm_sections.specs.Sections.{Built, added, has_entries, parts_added, rela_added, relas_added, relas_len};
-ghost use Rattle.c6x_asm_sections.specs.Built.{built};
+ghost use Rattle.std.specs.Prelude.{◌≡◌, ◌≤◌, [], ◌∷◌, count_by, length, map, OnOk};
+ghost use Rattle.c6x_asm_form.specs.Filing.{has_entries, named_part, named_relas};
+ghost use Rattle.c6x_asm_sections.specs.Adding.{built, named, added};
 
 use crate::headers::{TableKind, part_section, table_section};
 use c6x_asm_directives::quoted;
@@ -10,7 +10,7 @@ use c6x_elf::Section;
 use std::alloc::{AllocError, Global};
 
 /// One more section, whose name goes behind the others.
-#[tactic(auto, unfolding(crate::specs::Sections::added))]
+#[tactic(auto, using(crate::proofs::Adds::added_one))]
 pub fn add(
     front: &[u8],
     name: &[u8],
@@ -18,7 +18,7 @@ pub fn add(
     sections: &mut Vec<Section>,
     names: &mut Items<u8>,
 ) -> Result<(), AllocError>
-    ensures { OnOk result (built sections.new.items names.new ≡ added front.now name.now section (built sections.old.items names.old)) }
+    ensures { OnOk result (built sections.new.items names.new ≡ added (named front.now name.now section ∷ []) (built sections.old.items names.old)) }
 {
     let at = (names.as_slice().len() % 4_294_967_296) as u32;
     sections
@@ -33,6 +33,7 @@ pub fn add(
 }
 
 /// The named sections.
+#[tactic(auto, using(crate::proofs::Adds::parts_at, crate::proofs::Adds::parts_end))]
 pub fn add_parts(
     alloc: Global,
     text: &[u8],
@@ -40,7 +41,7 @@ pub fn add_parts(
     sections: &mut Vec<Section>,
     names: &mut Items<u8>,
 ) -> Result<(), AllocError>
-    ensures { OnOk result (built sections.new.items names.new ≡ parts_added text.now (built sections.old.items names.old) parts.now) }
+    ensures { OnOk result (built sections.new.items names.new ≡ added (map (named_part text.now) parts.now) (built sections.old.items names.old)) }
 {
     for part in parts {
         let section = part_section(alloc, part)?;
@@ -57,12 +58,13 @@ pub fn add_parts(
 
 /// Whether a section has relocations.
 pub fn has_entries(part: &Part) -> bool
-    ensures { result ≡ has_entries part.now.entries }
+    ensures { result ≡ has_entries part.now }
 {
     !part.entries.as_slice().is_empty()
 }
 
-#[tactic(auto, unfolding(crate::specs::Sections::rela_added))]
+// The relocation table of the section with this number, if it has relocations.
+#[tactic(auto, using(crate::proofs::Adds::added_none))]
 fn add_rela(
     alloc: Global,
     text: &[u8],
@@ -73,7 +75,7 @@ fn add_rela(
     sections: &mut Vec<Section>,
     names: &mut Items<u8>,
 ) -> Result<(), AllocError>
-    ensures { OnOk result (built sections.new.items names.new ≡ rela_added text.now numbers.now symtab number part.now (built sections.old.items names.old)) }
+    ensures { OnOk result (built sections.new.items names.new ≡ added (named_relas text.now numbers.now symtab number (part.now ∷ [])) (built sections.old.items names.old)) }
 {
     if !has_entries(part) {
         return Ok(());
@@ -97,6 +99,7 @@ fn add_rela(
 }
 
 /// The relocation tables of the named sections.
+#[tactic(auto, using(crate::proofs::Adds::relas_at, crate::proofs::Adds::relas_end))]
 pub fn add_relas(
     alloc: Global,
     text: &[u8],
@@ -106,7 +109,7 @@ pub fn add_relas(
     sections: &mut Vec<Section>,
     names: &mut Items<u8>,
 ) -> Result<(), AllocError>
-    ensures { OnOk result (built sections.new.items names.new ≡ relas_added text.now numbers.now symtab 1 (built sections.old.items names.old) parts.now) }
+    ensures { OnOk result (built sections.new.items names.new ≡ added (named_relas text.now numbers.now symtab 1 parts.now) (built sections.old.items names.old)) }
 {
     let mut number = 1;
     for part in parts {
@@ -117,13 +120,9 @@ pub fn add_relas(
 }
 
 /// How many sections have relocations.
-pub fn relas_len(parts: &[Part]) -> usize
-    ensures is { result ≡ relas_len 0 parts.now }
+pub fn count_relas(parts: &[Part]) -> usize
+    ensures is { result ≡ count_by has_entries parts.now }
     ensures few { result ≤ length parts.now }
 {
-    let mut count = 0;
-    for part in parts {
-        count = if has_entries(part) { count + 1 } else { count };
-    }
-    count
+    parts.iter().filter(|part| has_entries(part)).count()
 }

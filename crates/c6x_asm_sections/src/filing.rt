@@ -1,10 +1,11 @@
-ghost use Rattle.std.specs.Prelude.{◌≡◌, ◌+◌, ◌^◌, ◌<◌, ◌≤◌, true, false, [], count_by, length, codes, IfOk, OnOk};
-ghost use Rattle.c6x_asm_tables.specs.Symbols.{is_local, names_len};
-ghost use Rattle.c6x_asm_sections.specs.Built.{built};
-ghost use Rattle.c6x_asm_sections.specs.Filing.{first_built, symtab_of, placed, tabled, named, file_of};
+ghost use Rattle.std.specs.Prelude.{◌≡◌, ◌+◌, ◌^◌, ◌%◌, ◌<◌, ◌≤◌, [], ◌∷◌, count_by, length, IfOk, OnOk};
+ghost use Rattle.c6x_asm_form.specs.Bindings.{is_local};
+ghost use Rattle.c6x_asm_form.specs.Filing.{symtab_of, named_sections, named_strtab, named_symtab, file_of};
+ghost use Rattle.c6x_asm_object.specs.Symbols.{names_total};
+ghost use Rattle.c6x_asm_sections.specs.Adding.{built, first_built, added, with_names};
 
-use crate::adding::{add, add_parts, add_relas, relas_len};
-use crate::headers::{TableKind, table_section};
+use crate::adding::{add, add_parts, add_relas, count_relas};
+use crate::headers::{TableKind, null_section, table_section};
 use c6x_asm_file::symbol_numbers;
 use c6x_asm_object::{Items, Part, Symbol};
 use c6x_asm_tables::{is_local, name_table, symbol_table};
@@ -17,7 +18,15 @@ fn symtab_of(parts: &[Part]) -> usize
     ensures is { result ≡ symtab_of parts.now }
     ensures few { result < 2 ^ 32 }
 {
-    1 + parts.len() + relas_len(parts)
+    1 + parts.len() + count_relas(parts)
+}
+
+// The number of the names of the sections, behind `.symtab` and `.strtab`.
+fn names_number(parts: &[Part]) -> u16
+    requires { length parts.now < 2 ^ 31 }
+    ensures { result ≡ (symtab_of parts.now + 2) % 65536 }
+{
+    ((symtab_of(parts) + 2) % 65_536) as u16
 }
 
 fn count_local(symbols: &[Symbol]) -> usize
@@ -27,8 +36,9 @@ fn count_local(symbols: &[Symbol]) -> usize
     symbols.iter().filter(|symbol| is_local(**symbol)).count()
 }
 
-#[tactic(auto, unfolding(crate::specs::Filing::placed))]
-fn place(
+// The symbol table.
+#[tactic(auto, unfolding(c6x_asm_form::specs::Filing::named_symtab))]
+fn add_symtab(
     alloc: Global,
     text: &[u8],
     parts: &[Part],
@@ -37,36 +47,10 @@ fn place(
     names: &mut Items<u8>,
 ) -> Result<(), AllocError>
     requires few { length parts.now < 2 ^ 31 }
-    requires begins { built sections.old.items names.old ≡ first_built }
-    ensures { OnOk result (built sections.new.items names.new ≡ placed text.now parts.now symbols.now) }
+    requires names { 1 + names_total text.now symbols.now < 2 ^ 32 }
+    ensures { OnOk result (built sections.new.items names.new ≡ added (named_symtab text.now parts.now symbols.now ∷ []) (built sections.old.items names.old)) }
 {
-    let numbers = symbol_numbers(alloc, parts.len(), symbols)?;
-    add_parts(alloc, text, parts, sections, names)?;
-    add_relas(
-        alloc,
-        text,
-        numbers.as_slice(),
-        symtab_of(parts),
-        parts,
-        sections,
-        names,
-    )
-}
-
-#[tactic(auto, unfolding(crate::specs::Filing::tabled))]
-fn add_tables(
-    alloc: Global,
-    text: &[u8],
-    parts: &[Part],
-    symbols: &[Symbol],
-    sections: &mut Vec<Section>,
-    names: &mut Items<u8>,
-) -> Result<(), AllocError>
-    requires few { length parts.now < 2 ^ 31 }
-    requires names { 1 + names_len true symbols.now + names_len false symbols.now < 2 ^ 32 }
-    ensures { OnOk result (built sections.new.items names.new ≡ tabled text.now parts.now symbols.now (built sections.old.items names.old)) }
-{
-    let bytes = symbol_table(alloc, parts.len(), symbols)?;
+    let bytes = symbol_table(alloc, text, parts.len(), symbols)?;
     let table = TableKind {
         kind: 2,
         link: symtab_of(parts) + 1,
@@ -75,37 +59,76 @@ fn add_tables(
         entsize: 16,
     };
     let section = table_section(alloc, table, bytes.as_slice())?;
-    add(&[], b".symtab", section, sections, names)?;
+    add(&[], b".symtab", section, sections, names)
+}
+
+// A table of names has no other numbers.
+const STRINGS: TableKind = TableKind {
+    kind: 3,
+    link: 0,
+    info: 0,
+    align: 1,
+    entsize: 0,
+};
+
+// The names of the symbols.
+#[tactic(auto, unfolding(c6x_asm_form::specs::Filing::named_strtab))]
+fn add_strtab(
+    alloc: Global,
+    text: &[u8],
+    symbols: &[Symbol],
+    sections: &mut Vec<Section>,
+    names: &mut Items<u8>,
+) -> Result<(), AllocError>
+    ensures { OnOk result (built sections.new.items names.new ≡ added (named_strtab text.now symbols.now ∷ []) (built sections.old.items names.old)) }
+{
     let bytes = name_table(alloc, text, symbols)?;
-    let table = TableKind {
-        kind: 3,
-        link: 0,
-        info: 0,
-        align: 1,
-        entsize: 0,
-    };
-    let section = table_section(alloc, table, bytes.as_slice())?;
+    let section = table_section(alloc, STRINGS, bytes.as_slice())?;
     add(&[], b".strtab", section, sections, names)
 }
 
-#[tactic(auto, unfolding(crate::specs::Filing::named))]
+// All sections but the null section and the names of the sections.
+#[tactic(auto, using(crate::proofs::Adds::added_all))]
+fn add_sections(
+    alloc: Global,
+    text: &[u8],
+    parts: &[Part],
+    symbols: &[Symbol],
+    sections: &mut Vec<Section>,
+    names: &mut Items<u8>,
+) -> Result<(), AllocError>
+    requires few { length parts.now < 2 ^ 31 }
+    requires names { 1 + names_total text.now symbols.now < 2 ^ 32 }
+    ensures { OnOk result (built sections.new.items names.new ≡ added (named_sections text.now parts.now symbols.now) (built sections.old.items names.old)) }
+{
+    let numbers = symbol_numbers(alloc, parts.len(), symbols)?;
+    let symtab = symtab_of(parts);
+    add_parts(alloc, text, parts, sections, names)?;
+    add_relas(
+        alloc,
+        text,
+        numbers.as_slice(),
+        symtab,
+        parts,
+        sections,
+        names,
+    )?;
+    add_symtab(alloc, text, parts, symbols, sections, names)?;
+    add_strtab(alloc, text, symbols, sections, names)
+}
+
+// The names of the sections.
+#[tactic(auto, unfolding(crate::specs::Adding::with_names))]
 fn add_names(
     alloc: Global,
     sections: &mut Vec<Section>,
     mut names: Items<u8>,
 ) -> Result<(), AllocError>
-    ensures { OnOk result (sections.new.items ≡ named (built sections.old.items names)) }
+    ensures { OnOk result (sections.new.items ≡ with_names (built sections.old.items names)) }
 {
     let at = (names.as_slice().len() % 4_294_967_296) as u32;
     names.extend(b".shstrtab\0")?;
-    let table = TableKind {
-        kind: 3,
-        link: 0,
-        info: 0,
-        align: 1,
-        entsize: 0,
-    };
-    let section = table_section(alloc, table, names.as_slice())?;
+    let section = table_section(alloc, STRINGS, names.as_slice())?;
     sections
         .push(Section {
             name: at,
@@ -115,7 +138,7 @@ fn add_names(
 }
 
 /// The object file of these sections and symbols of a text.
-#[tactic(auto, unfolding(crate::specs::Filing::file_of))]
+#[tactic(auto, unfolding(c6x_asm_form::specs::Filing::file_of, crate::specs::Adding::first_built), using(crate::proofs::Adds::sections_made))]
 pub fn file_of(
     alloc: Global,
     text: &[u8],
@@ -123,30 +146,22 @@ pub fn file_of(
     symbols: &[Symbol],
 ) -> Result<File, AllocError>
     requires few { length parts.now < 2 ^ 31 }
-    requires names { 1 + names_len true symbols.now + names_len false symbols.now < 2 ^ 32 }
+    requires names { 1 + names_total text.now symbols.now < 2 ^ 32 }
     ensures { IfOk result (λ file. file ≡ file_of text.now parts.now symbols.now) }
 {
-    let null = TableKind {
-        kind: 0,
-        link: 0,
-        info: 0,
-        align: 0,
-        entsize: 0,
-    };
     let mut sections = Vec::new(alloc);
     sections
-        .push(table_section(alloc, null, &[])?)
+        .push(null_section(alloc)?)
         .map_err(AllocError::from)?;
     let mut names = Items::new(alloc);
     names.push(0)?;
-    place(alloc, text, parts, symbols, &mut sections, &mut names)?;
-    add_tables(alloc, text, parts, symbols, &mut sections, &mut names)?;
+    add_sections(alloc, text, parts, symbols, &mut sections, &mut names)?;
     add_names(alloc, &mut sections, names)?;
     Ok(File {
         kind: 1,
         entry: 0,
         flags: 0,
-        names: ((symtab_of(parts) + 2) % 65_536) as u16,
+        names: names_number(parts),
         segments: Row::of(Vec::new(alloc)),
         sections: Row::of(sections),
     })

@@ -1,5 +1,5 @@
 ghost use Rattle.std.specs.Prelude.{◌≡◌, ◌^◌, ◌<◌, length, IfOk};
-ghost use Rattle.c6x_asm_sections.specs.Sections.{part_type, part_flags, part_section, table_section};
+ghost use Rattle.c6x_asm_form.specs.Headers.{part_type, part_flags, part_section, table_section, null_section};
 
 use c6x_asm_object::{Part, PartKind};
 use c6x_base::Bytes;
@@ -26,7 +26,7 @@ fn part_flags(kind: PartKind) -> u32
 }
 
 /// The section of a part, without its name.
-#[tactic(auto, unfolding(crate::specs::Sections::part_section))]
+#[tactic(auto, unfolding(c6x_asm_form::specs::Headers::part_section))]
 pub fn part_section(alloc: Global, part: &Part) -> Result<Section, AllocError>
     ensures { IfOk result (λ section. section ≡ part_section part.now) }
 {
@@ -56,7 +56,7 @@ pub struct TableKind {
 }
 
 /// The section of a table, without its name.
-#[tactic(auto, unfolding(crate::specs::Sections::table_section))]
+#[tactic(auto, unfolding(c6x_asm_form::specs::Headers::table_section))]
 pub fn table_section(alloc: Global, table: TableKind, bytes: &[u8]) -> Result<Section, AllocError>
     ensures { IfOk result (λ section. section ≡ table_section table.kind table.link table.info table.align table.entsize bytes.now) }
 {
@@ -74,4 +74,19 @@ pub fn table_section(alloc: Global, table: TableKind, bytes: &[u8]) -> Result<Se
         entsize: table.entsize,
         bytes,
     })
+}
+
+/// The section with number 0.
+#[tactic(auto, unfolding(c6x_asm_form::specs::Headers::null_section))]
+pub fn null_section(alloc: Global) -> Result<Section, AllocError>
+    ensures { IfOk result (λ section. section ≡ null_section) }
+{
+    let null = TableKind {
+        kind: 0,
+        link: 0,
+        info: 0,
+        align: 0,
+        entsize: 0,
+    };
+    table_section(alloc, null, &[])
 }

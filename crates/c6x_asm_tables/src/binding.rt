@@ -1,5 +1,6 @@
 ghost use Rattle.std.specs.Prelude.{◌≡◌, ◌≤◌};
-ghost use Rattle.c6x_asm_tables.specs.Symbols.{is_common, is_shared, binding, is_local, is_in, visibility, spot_or_none};
+ghost use Rattle.c6x_asm_form.specs.Bindings.{is_shared, binding, is_local, visibility, spot_or_none};
+ghost use Rattle.c6x_asm_tables.specs.Names.{is_in};
 
 use c6x_asm_object::{Spot, Symbol};
 
@@ -13,7 +14,7 @@ fn is_shared(spot: Option<Spot>) -> bool
 }
 
 /// The binding of a symbol: LOCAL 0, GLOBAL 1, WEAK 2.
-#[tactic(auto, unfolding(crate::specs::Symbols::binding))]
+#[tactic(auto, unfolding(c6x_asm_form::specs::Bindings::binding))]
 pub fn binding(symbol: Symbol) -> u8
     ensures is { result ≡ binding symbol }
     ensures few { result ≤ 2 }

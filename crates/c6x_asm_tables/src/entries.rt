@@ -1,8 +1,10 @@
-ghost use Rattle.std.specs.Prelude.{◌≡◌, ◌+◌, ◌^◌, ◌<◌, ◌≤◌, if◌then◌else◌, true, false, List, [], ◌∷◌, OnOk, IfOk};
-ghost use Rattle.c6x_asm_object.specs.declared.symbol.Symbol.{Symbol};
-ghost use Rattle.c6x_asm_tables.specs.Symbols.{is_in, entry_behind, symbol_behind, names_len, symbols_behind, sections_behind, symbol_table};
+ghost use Rattle.std.specs.Prelude.{◌≡◌, ◌+◌, ◌^◌, ◌<◌, [], ◌∷◌, ◌++◌, OnOk, IfOk};
+ghost use Rattle.c6x_asm_form.specs.Symbols.{entry_row, symbol_row, symbol_rows, section_rows, symbol_table};
+ghost use Rattle.c6x_asm_object.specs.Symbols.{names_total};
+ghost use Rattle.c6x_asm_tables.specs.Names.{group};
 
 use crate::binding::{binding, is_in, spot_or_none, visibility};
+use c6x_asm_directives::quoted;
 use c6x_asm_object::{Items, Symbol};
 use std::alloc::{AllocError, Global};
 
@@ -16,9 +18,9 @@ struct Entry {
     section: usize,
 }
 
-#[tactic(auto, unfolding(crate::specs::Symbols::entry_behind))]
+#[tactic(auto, using(crate::proofs::Names::row_put))]
 fn put_entry(bytes: &mut Items<u8>, name: u32, entry: &Entry) -> Result<(), AllocError>
-    ensures { OnOk result (bytes.new ≡ entry_behind bytes.old name entry.now.value entry.now.size entry.now.info entry.now.other entry.now.section) }
+    ensures { OnOk result (bytes.new ≡ bytes.old ++ entry_row name entry.now.value entry.now.size entry.now.info entry.now.other entry.now.section) }
 {
     bytes.extend(&name.to_le_bytes())?;
     bytes.extend(&entry.value.to_le_bytes())?;
@@ -28,7 +30,7 @@ fn put_entry(bytes: &mut Items<u8>, name: u32, entry: &Entry) -> Result<(), Allo
 }
 
 fn put_symbol(bytes: &mut Items<u8>, name: u32, symbol: Symbol) -> Result<(), AllocError>
-    ensures { OnOk result (bytes.new ≡ symbol_behind bytes.old name symbol) }
+    ensures { OnOk result (bytes.new ≡ bytes.old ++ symbol_row name symbol) }
 {
     let spot = spot_or_none(symbol.spot);
     let entry = Entry {
@@ -42,43 +44,51 @@ fn put_symbol(bytes: &mut Items<u8>, name: u32, symbol: Symbol) -> Result<(), Al
 }
 
 // A symbol, if it is of the group; the answer is the offset of the next name.
-fn put_if(local: bool, bytes: &mut Items<u8>, name: u32, symbol: Symbol) -> Result<u32, AllocError>
-    requires { name + names_len local (symbol ∷ []) < 2 ^ 32 }
-    ensures bytes { OnOk result (bytes.new ≡ (if is_in local symbol then symbol_behind bytes.old name symbol else bytes.old)) }
-    ensures name { IfOk result (λ next. next ≡ (if is_in local symbol then name + (symbol.len + 1) else name)) }
-    ensures len { IfOk result (λ next. next ≡ name + names_len local (symbol ∷ [])) }
+#[tactic(auto, unfolding(crate::specs::Names::group))]
+fn put_if(
+    text: &[u8],
+    local: bool,
+    bytes: &mut Items<u8>,
+    name: u32,
+    symbol: Symbol,
+) -> Result<u32, AllocError>
+    requires { name + names_total text.now (group local (symbol ∷ [])) < 2 ^ 32 }
+    ensures bytes { OnOk result (bytes.new ≡ bytes.old ++ symbol_rows text.now name (group local (symbol ∷ []))) }
+    ensures name { IfOk result (λ next. next ≡ name + names_total text.now (group local (symbol ∷ []))) }
 {
     if is_in(local, symbol) {
         put_symbol(bytes, name, symbol)?;
-        Ok(name + (symbol.len + 1))
+        let len = quoted(text, symbol.at, symbol.len).len();
+        Ok(name + (len as u32 + 1))
     } else {
         Ok(name)
     }
 }
 
 // The symbols of a group; the answer is the offset of the next name.
-#[tactic(auto, using(crate::proofs::Names::names_at, crate::proofs::Names::names_within))]
+#[tactic(auto, using(crate::proofs::Names::total_at, crate::proofs::Names::total_within, crate::proofs::Names::total_end, crate::proofs::Names::rows_at, crate::proofs::Names::rows_end))]
 fn put_group(
+    text: &[u8],
     local: bool,
     bytes: &mut Items<u8>,
     name: u32,
     symbols: &[Symbol],
 ) -> Result<u32, AllocError>
-    requires { name + names_len local symbols.now < 2 ^ 32 }
-    ensures bytes { OnOk result (bytes.new ≡ symbols_behind local bytes.old name symbols.now) }
-    ensures name { IfOk result (λ next. next ≡ name + names_len local symbols.now) }
+    requires { name + names_total text.now (group local symbols.now) < 2 ^ 32 }
+    ensures bytes { OnOk result (bytes.new ≡ bytes.old ++ symbol_rows text.now name (group local symbols.now)) }
+    ensures name { IfOk result (λ next. next ≡ name + names_total text.now (group local symbols.now)) }
 {
     let mut next = name;
     for symbol in symbols {
-        next = put_if(local, bytes, next, *symbol)?;
+        next = put_if(text, local, bytes, next, *symbol)?;
     }
     Ok(next)
 }
 
-#[tactic(auto, using(crate::proofs::Names::sections_step, crate::proofs::Names::sections_end))]
+#[tactic(auto, using(crate::proofs::Names::sections_at, crate::proofs::Names::sections_end))]
 fn put_sections(bytes: &mut Items<u8>, count: usize) -> Result<(), AllocError>
     requires { count < 2 ^ 32 }
-    ensures { OnOk result (bytes.new ≡ sections_behind bytes.old 1 count) }
+    ensures { OnOk result (bytes.new ≡ bytes.old ++ section_rows 1 count) }
 {
     for i in 0..count {
         let entry = Entry {
@@ -94,15 +104,16 @@ fn put_sections(bytes: &mut Items<u8>, count: usize) -> Result<(), AllocError>
 }
 
 /// The symbol table of an object with so many sections and these names.
-#[tactic(auto, unfolding(crate::specs::Symbols::symbol_table))]
+#[tactic(auto, using(crate::proofs::Names::table_put, crate::proofs::Names::names_first, crate::proofs::Names::groups_total))]
 pub fn symbol_table(
     alloc: Global,
+    text: &[u8],
     sections: usize,
     symbols: &[Symbol],
 ) -> Result<Items<u8>, AllocError>
     requires few { sections < 2 ^ 32 }
-    requires names { 1 + names_len true symbols.now + names_len false symbols.now < 2 ^ 32 }
-    ensures { IfOk result (λ bytes. bytes ≡ symbol_table sections symbols.now) }
+    requires names { 1 + names_total text.now symbols.now < 2 ^ 32 }
+    ensures { IfOk result (λ bytes. bytes ≡ symbol_table text.now sections symbols.now) }
 {
     let mut bytes = Items::new(alloc);
     let null = Entry {
@@ -114,7 +125,7 @@ pub fn symbol_table(
     };
     put_entry(&mut bytes, 0, &null)?;
     put_sections(&mut bytes, sections)?;
-    let name = put_group(true, &mut bytes, 1, symbols)?;
-    put_group(false, &mut bytes, name, symbols)?;
+    let name = put_group(text, true, &mut bytes, 1, symbols)?;
+    put_group(text, false, &mut bytes, name, symbols)?;
     Ok(bytes)
 }

@@ -1,6 +1,6 @@
-ghost use Rattle.std.specs.Prelude.{◌≡◌, ◌∷◌, ◌++◌, [], if◌then◌else◌, OnOk, IfOk};
-ghost use Rattle.c6x_asm_directives.specs.Directives.{quoted};
-ghost use Rattle.c6x_asm_tables.specs.Symbols.{is_in, names_behind, name_table};
+ghost use Rattle.std.specs.Prelude.{◌≡◌, ◌∷◌, ◌++◌, [], OnOk, IfOk};
+ghost use Rattle.c6x_asm_form.specs.Symbols.{name_rows, name_table};
+ghost use Rattle.c6x_asm_tables.specs.Names.{group};
 
 use crate::binding::is_in;
 use c6x_asm_directives::quoted;
@@ -8,8 +8,9 @@ use c6x_asm_object::{Items, Symbol};
 use std::alloc::{AllocError, Global};
 
 // The name of a symbol with a zero byte, if it is of the group.
+#[tactic(auto, unfolding(crate::specs::Names::group))]
 fn put_if(text: &[u8], local: bool, bytes: &mut Items<u8>, symbol: Symbol) -> Result<(), AllocError>
-    ensures { OnOk result (bytes.new ≡ (if is_in local symbol then bytes.old ++ quoted text.now symbol.at symbol.len ++ 0 ∷ [] else bytes.old)) }
+    ensures { OnOk result (bytes.new ≡ bytes.old ++ name_rows text.now (group local (symbol ∷ []))) }
 {
     if is_in(local, symbol) {
         bytes.extend(quoted(text, symbol.at, symbol.len))?;
@@ -18,13 +19,14 @@ fn put_if(text: &[u8], local: bool, bytes: &mut Items<u8>, symbol: Symbol) -> Re
     Ok(())
 }
 
+#[tactic(auto, using(crate::proofs::Names::names_at, crate::proofs::Names::names_end))]
 fn put_names(
     text: &[u8],
     local: bool,
     bytes: &mut Items<u8>,
     symbols: &[Symbol],
 ) -> Result<(), AllocError>
-    ensures { OnOk result (bytes.new ≡ names_behind text.now local bytes.old symbols.now) }
+    ensures { OnOk result (bytes.new ≡ bytes.old ++ name_rows text.now (group local symbols.now)) }
 {
     for symbol in symbols {
         put_if(text, local, bytes, *symbol)?;
@@ -33,7 +35,7 @@ fn put_names(
 }
 
 /// The names of the symbols: a zero byte, the local names, the others, a zero byte behind each.
-#[tactic(auto, unfolding(crate::specs::Symbols::name_table))]
+#[tactic(auto, using(crate::proofs::Names::names_put))]
 pub fn name_table(alloc: Global, text: &[u8], symbols: &[Symbol]) -> Result<Items<u8>, AllocError>
     ensures { IfOk result (λ bytes. bytes ≡ name_table text.now symbols.now) }
 {

@@ -1,10 +1,10 @@
 use Rattle.std.proofs.Common.{◌≡◌, ◌+◌, drop}
-use Rattle.c6x_asm_sections.specs.Built.{built}
-use Rattle.c6x_asm_sections.specs.Sections.{relas_added}
+use Rattle.c6x_asm_form.specs.Filing.{named_relas}
+use Rattle.c6x_asm_sections.specs.Adding.{built, added}
 use Rattle.c6x_asm_sections.proofs.adding.add_relas.Given as goal
 
 abbrev pub invariant-loop-part : goal.invariant-loop-part
 invariant-loop-part l = record {
-  made : relas_added l.text l.numbers l.symtab l.number (built l.sections.items l.names) (drop l.part-index l.parts) ≡ relas_added l.text l.numbers l.symtab 1 (built l.initial.sections.items l.initial.names) l.parts;
+  made : added (named_relas l.text l.numbers l.symtab l.number (drop l.part-index l.parts)) (built l.sections.items l.names) ≡ added (named_relas l.text l.numbers l.symtab 1 l.parts) (built l.initial.sections.items l.initial.names);
   number : l.number ≡ l.part-index + 1;
 }

@@ -1,9 +1,11 @@
-use Rattle.std.proofs.Common.{◌≡◌, ◌+◌, drop}
-use Rattle.c6x_asm_tables.specs.Symbols.{symbols_behind, names_len}
+use Rattle.std.proofs.Common.{◌≡◌, ◌+◌, ◌++◌, drop}
+use Rattle.c6x_asm_form.specs.Symbols.{symbol_rows}
+use Rattle.c6x_asm_object.specs.Symbols.{names_total}
+use Rattle.c6x_asm_tables.specs.Names.{group}
 use Rattle.c6x_asm_tables.proofs.entries.put_group.Given as goal
 
 abbrev pub invariant-loop-symbol : goal.invariant-loop-symbol
 invariant-loop-symbol l = record {
-  made : symbols_behind l.local l.bytes l.next (drop l.symbol-index l.symbols) ≡ symbols_behind l.local l.initial.bytes l.name l.symbols;
-  names : l.next + names_len l.local (drop l.symbol-index l.symbols) ≡ l.name + names_len l.local l.symbols;
+  made : l.bytes ++ symbol_rows l.text l.next (group l.local (drop l.symbol-index l.symbols)) ≡ l.initial.bytes ++ symbol_rows l.text l.name (group l.local l.symbols);
+  names : l.next + names_total l.text (group l.local (drop l.symbol-index l.symbols)) ≡ l.name + names_total l.text (group l.local l.symbols);
 }

@@ -1,6 +1,7 @@
-use Rattle.std.proofs.Common.{◌≡◌, drop}
-use Rattle.c6x_asm_tables.specs.Symbols.{names_behind}
+use Rattle.std.proofs.Common.{◌≡◌, ◌++◌, drop}
+use Rattle.c6x_asm_form.specs.Symbols.{name_rows}
+use Rattle.c6x_asm_tables.specs.Names.{group}
 use Rattle.c6x_asm_tables.proofs.strings.put_names.Given as goal
 
 abbrev pub invariant-loop-symbol : goal.invariant-loop-symbol
-invariant-loop-symbol l = names_behind l.text l.local l.bytes (drop l.symbol-index l.symbols) ≡ names_behind l.text l.local l.initial.bytes l.symbols
+invariant-loop-symbol l = l.bytes ++ name_rows l.text (group l.local (drop l.symbol-index l.symbols)) ≡ l.initial.bytes ++ name_rows l.text (group l.local l.symbols)
