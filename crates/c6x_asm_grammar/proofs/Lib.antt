@@ -1,0 +1,6 @@
+pub mod Values
+pub mod Operands
+pub mod Lines
+pub mod Fronts
+pub mod Spelled
+mod Worked
