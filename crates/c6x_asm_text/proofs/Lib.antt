@@ -1,1 +1,4 @@
 pub mod Inside
+pub mod Kept
+pub mod Passes
+pub mod Weighed

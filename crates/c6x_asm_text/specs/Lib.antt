@@ -1,2 +1,4 @@
+pub mod Lines
 pub mod Running
+pub mod Kept
 pub mod Reading

@@ -1,7 +1,8 @@
 -- The sections and symbols of a text, or the first rule that it breaks.
-use Rattle.std.specs.Prelude.{◌≡◌, ℕ, min, List, [], ◌∷◌, take, Option, Some, None, Result, Ok, Err}
+use Rattle.std.specs.Prelude.{◌≡◌, ℕ, ◌-◌, min, List, [], ◌∷◌, take, Option, Some, None, Result, Ok, Err}
 use Rattle.c6x_lex.specs.declared.token.Token.{Token}
 use Rattle.c6x_lex.specs.Tokens.{Spot, tokens_of}
+use Rattle.c6x_asm_lines.specs.declared.lexeme.Lexeme.{Lexeme}
 use Rattle.c6x_asm_operands.specs.declared.rule.AsmRule.TheVariants.{BadByte, Packet}
 use Rattle.c6x_asm_object.specs.declared.object.Object.{Object}
 use Rattle.c6x_asm_object.specs.declared.part.Part.{Part}
@@ -10,8 +11,7 @@ use Rattle.c6x_asm_steps.specs.States.{State, state_of}
 use Rattle.c6x_asm_text.specs.declared.asm_error.AsmError.{AsmError}
 use Rattle.c6x_asm_text.specs.declared.asm_error.AsmError.TheVariants.{Rule, NoMemory}
 use Rattle.c6x_asm_text.specs.declared.broken.Broken.{Broken}
-use Rattle.c6x_asm_text.specs.declared.stop.Stop.{Stop}
-use Rattle.c6x_asm_text.specs.Running.{run_of}
+use Rattle.c6x_asm_text.specs.Lines.{after_lines, lines_of}
 
 -- the lower of two lines, where there are two
 abbrev pub lower_line : Option ℕ → Option ℕ → Option ℕ
@@ -31,20 +31,25 @@ or_packet (Some line) r = Err (record { rule = Packet; line = line })
 abbrev pub nothing : State
 nothing = record { parts = []; now = None; symbols = [] }
 
-abbrev pub broken_by : Stop → Broken
-broken_by stop = record { rule = stop.rule; line = stop.line }
+-- all lines but those from this number on
+abbrev pub before : ℕ → List (List Lexeme) → List (List Lexeme)
+before number lines = take (number - 1) lines
 
--- a line stopped all: the packets of the lines before it are looked at first
-abbrev pub stopped : Stop → Result State Stop → Result State Broken
-stopped stop (Ok s) = or_packet (bad_line None s.parts) (Err (broken_by stop))
-stopped stop (Err other) = Err (broken_by stop)
+-- a line breaks a rule: the packets of the lines before it are lower
+abbrev pub stopped : Broken → Result State Broken → Result State Broken
+stopped broken (Ok s) = or_packet (bad_line None s.parts) (Err broken)
+stopped broken (Err other) = Err broken
 
-abbrev pub ended : List ℕ → List Token → Result State Stop → Result State Broken
-ended text tokens (Ok s) = or_packet (bad_line None s.parts) (Ok s)
-ended text tokens (Err stop) = stopped stop (run_of text nothing (take stop.before tokens))
+-- how the lines end, by what they come to
+abbrev pub ended : List ℕ → List (List Lexeme) → Result State Broken → Result State Broken
+ended text lines (Ok s) = or_packet (bad_line None s.parts) (Ok s)
+ended text lines (Err broken) = stopped broken (after_lines text 1 nothing (before broken.line lines))
+
+unfoldable pub read_lines : List ℕ → List (List Lexeme) → Result State Broken
+read_lines text lines = ended text lines (after_lines text 1 nothing lines)
 
 abbrev pub read_tokens : List ℕ → Result (List Token) Spot → Result State Broken
-read_tokens text (Ok tokens) = ended text tokens (run_of text nothing tokens)
+read_tokens text (Ok tokens) = read_lines text (lines_of text tokens)
 read_tokens text (Err spot) = Err (record { rule = BadByte; line = spot.line })
 
 -- the sections and symbols of a text, or the first rule that it breaks: a byte that starts no token before all others,

@@ -2,11 +2,10 @@
 #![tactic(auto)]
 
 mod asm_error;
-mod begun;
 mod broken;
 mod reading;
 mod running;
-mod stop;
 
 pub use asm_error::AsmError;
+pub use broken::Broken;
 pub use reading::read;

@@ -1,12 +1,15 @@
-ghost use Rattle.std.specs.Prelude.{◌≡◌, ◌^◌, ◌<◌, ◌≤◌, None, IfOk, length, vec_len};
+ghost use Rattle.std.specs.Prelude.{◌≡◌, ◌^◌, ◌<◌, [], None, Some, Err, IfOk, length};
 ghost use Rattle.c6x_lex.specs.Tokens.{AreSpans, tokens_of};
 ghost use Rattle.c6x_asm_steps.specs.States.{State, state_of, IsSound};
-ghost use Rattle.c6x_asm_text.specs.Running.{run_of};
-ghost use Rattle.c6x_asm_text.specs.Reading.{lower_line, bad_line, nothing, stopped, ended, read_of, Reads};
+ghost use Rattle.c6x_asm_text.specs.Lines.{after_lines, lines_of};
+ghost use Rattle.c6x_asm_text.specs.Running.{Completes, and_last, last_lined, left, run_from, state_left};
+ghost use Rattle.c6x_asm_text.specs.Reading.{lower_line, bad_line, before, nothing, stopped, read_lines, read_of, Reads};
 
 use crate::asm_error::AsmError;
-use crate::running::run;
-use crate::stop::Stop;
+use crate::broken::Broken;
+use crate::running::{add_line, ends_in_newline, run};
+use c6x_asm_limits::weight_of;
+use c6x_asm_lines::Lexeme;
 use c6x_asm_object::{Object, Part};
 use c6x_asm_operands::AsmRule;
 use c6x_asm_packets::first_bad;
@@ -33,60 +36,137 @@ fn bad_line(alloc: Global, parts: &[Part]) -> Result<Option<u32>, AllocError>
     Ok(line)
 }
 
-fn nothing(alloc: Global) -> Object
+fn nothing<'a>(alloc: Global, text: &'a [u8]) -> Object<'a>
     ensures is { state_of result ≡ nothing }
-    ensures sound { IsSound result }
+    ensures sound { IsSound text.now result }
 {
-    Object {
-        parts: Vec::new(alloc),
-        current: None,
-        symbols: Vec::new(alloc),
+    Object::new(alloc)
+}
+
+fn packet_before(
+    alloc: Global,
+    text: &[u8],
+    tokens: &[Token],
+    broken: Broken,
+) -> Result<Broken, AllocError>
+    requires small { length text.now < 2 ^ 32 }
+    requires spans { AreSpans text.now 0 tokens.now }
+    ensures { IfOk result (λ lowest. Err lowest ≡ stopped broken (state_left (run_from text.now (Some broken.line) 1 [] nothing tokens.now))) }
+{
+    let mut object = nothing(alloc, text);
+    let mut lexemes = Vec::new(alloc);
+    let end = Some(broken.line);
+    if run(alloc, text, tokens, end, &mut lexemes, &mut object)?.is_err() {
+        return Ok(broken);
+    }
+    match bad_line(alloc, object.parts.as_slice())? {
+        Some(line) => Ok(Broken {
+            rule: AsmRule::Packet,
+            line,
+        }),
+        None => Ok(broken),
     }
 }
 
-// A line stopped all: the packets of the lines before it are looked at first.
-fn stopped(alloc: Global, text: &[u8], tokens: &[Token], stop: Stop) -> Result<Object, AsmError>
+// A line breaks a rule: the packets of the lines before it are lower.
+#[tactic(auto, using(crate::proofs::Passes::stop_ok))]
+fn stopped(
+    alloc: Global,
+    text: &[u8],
+    tokens: &[Token],
+    broken: Broken,
+) -> Result<Broken, AllocError>
     requires small { length text.now < 2 ^ 32 }
     requires spans { AreSpans text.now 0 tokens.now }
-    ensures { Reads result (stopped stop (run_of text.now nothing tokens.now)) }
+    requires is { after_lines text.now 1 nothing (lines_of text.now tokens.now) ≡ Err broken }
+    ensures { IfOk result (λ lowest. Err lowest ≡ stopped broken (after_lines text.now 1 nothing (before broken.line (lines_of text.now tokens.now)))) }
 {
-    let mut object = nothing(alloc);
-    if let None = run(alloc, text, tokens, &mut object)? {
-        if let Some(line) = bad_line(alloc, object.parts.as_slice())? {
-            return Err(AsmError::Rule {
-                rule: AsmRule::Packet,
-                line,
-            });
-        }
-    }
-    Err(AsmError::Rule {
-        rule: stop.rule,
-        line: stop.line,
-    })
+    packet_before(alloc, text, tokens, broken)
 }
 
-#[tactic(auto, using(crate::proofs::Inside::front_spans))]
-fn ended(alloc: Global, text: &[u8], tokens: &[Token]) -> Result<Object, AsmError>
+// The last line, which is none behind a last newline.
+fn add_last<'a>(
+    alloc: Global,
+    text: &'a [u8],
+    line: u32,
+    lexemes: &[Lexeme],
+    object: &mut Object<'a>,
+) -> Result<Result<(), Broken>, AllocError>
+    requires sound { IsSound text.now object.old }
+    ensures { IfOk result (λ done. Completes done object.new (last_lined text.now (left line lexemes.now (state_of object.old)))) }
+{
+    if ends_in_newline(text) {
+        return Ok(Ok(()));
+    }
+    let mut weight = weight_of(text, &object.parts);
+    match add_line(alloc, text, line, lexemes, object, &mut weight)? {
+        Ok(()) => Ok(Ok(())),
+        Err(rule) => Ok(Err(Broken { rule, line })),
+    }
+}
+
+fn add_tokens<'a>(
+    alloc: Global,
+    text: &'a [u8],
+    tokens: &[Token],
+    object: &mut Object<'a>,
+) -> Result<Result<(), Broken>, AllocError>
     requires small { length text.now < 2 ^ 32 }
     requires spans { AreSpans text.now 0 tokens.now }
-    ensures { Reads result (ended text.now tokens.now (run_of text.now nothing tokens.now)) }
+    requires sound { IsSound text.now object.old }
+    ensures { IfOk result (λ done. Completes done object.new (and_last text.now (run_from text.now None 1 [] (state_of object.old) tokens.now))) }
 {
-    let mut object = nothing(alloc);
-    match run(alloc, text, tokens, &mut object)? {
-        Some(stop) => stopped(alloc, text, &tokens[..stop.before], stop),
-        None => match bad_line(alloc, object.parts.as_slice())? {
+    let mut lexemes = Vec::new(alloc);
+    match run(alloc, text, tokens, None, &mut lexemes, object)? {
+        Err(broken) => Ok(Err(broken)),
+        Ok(line) => add_last(alloc, text, line, lexemes.as_slice(), object),
+    }
+}
+
+// All lines of a text.
+#[tactic(auto, using(crate::proofs::Passes::come_ok))]
+fn add_lines<'a>(
+    alloc: Global,
+    text: &'a [u8],
+    tokens: &[Token],
+    object: &mut Object<'a>,
+) -> Result<Result<(), Broken>, AllocError>
+    requires small { length text.now < 2 ^ 32 }
+    requires spans { AreSpans text.now 0 tokens.now }
+    requires sound { IsSound text.now object.old }
+    ensures { IfOk result (λ done. Completes done object.new (after_lines text.now 1 (state_of object.old) (lines_of text.now tokens.now))) }
+{
+    add_tokens(alloc, text, tokens, object)
+}
+
+#[tactic(auto, unfolding(crate::specs::Reading::read_lines))]
+fn ended<'a>(alloc: Global, text: &'a [u8], tokens: &[Token]) -> Result<Object<'a>, AsmError>
+    requires small { length text.now < 2 ^ 32 }
+    requires spans { AreSpans text.now 0 tokens.now }
+    ensures { Reads result (read_lines text.now (lines_of text.now tokens.now)) }
+{
+    let mut object = nothing(alloc, text);
+    match add_lines(alloc, text, tokens, &mut object)? {
+        Ok(()) => match bad_line(alloc, object.parts.as_slice())? {
             Some(line) => Err(AsmError::Rule {
                 rule: AsmRule::Packet,
                 line,
             }),
             None => Ok(object),
         },
+        Err(broken) => {
+            let lowest = stopped(alloc, text, tokens, broken)?;
+            Err(AsmError::Rule {
+                rule: lowest.rule,
+                line: lowest.line,
+            })
+        }
     }
 }
 
 /// The sections and symbols of a text, or the first rule that it breaks.
 #[tactic(auto, unfolding(crate::specs::Reading::read_of))]
-pub fn read(alloc: Global, text: &[u8]) -> Result<Object, AsmError>
+pub fn read<'a>(alloc: Global, text: &'a [u8]) -> Result<Object<'a>, AsmError>
     requires { length text.now < 2 ^ 32 }
     ensures { Reads result (read_of text.now) }
 {

@@ -1,12 +1,16 @@
-ghost use Rattle.std.specs.Prelude.{◌≡◌, ◌+◌, ◌^◌, ◌<◌, ◌≤◌, List, ◌∷◌, IfOk, OnOk, IfSome, length};
+ghost use Rattle.std.specs.Prelude.{◌≡◌, ℕ, ◌+◌, ◌^◌, ◌<◌, ◌≤◌, if◌then◌else◌, false, List, ◌∷◌, Option, Some, None, IfOk, OnOk, length};
 ghost use Rattle.c6x_lex.specs.Tokens.{AreSpans};
 ghost use Rattle.c6x_lex.specs.declared.token.Token.{Token};
+ghost use Rattle.c6x_asm_form.specs.Limits.{is_large};
+ghost use Rattle.c6x_asm_operands.specs.declared.rule.AsmRule.TheVariants.{Large};
 ghost use Rattle.c6x_asm_steps.specs.States.{State, state_of, IsSound, Becomes};
 ghost use Rattle.c6x_asm_lines.specs.Grammar.{line_of};
-ghost use Rattle.c6x_asm_text.specs.Running.{read_line, lined, ends_in_newline, last_lined, run_from, run_of, Runs, Goes};
+ghost use Rattle.c6x_asm_limits.specs.Weights.{weight_of};
+ghost use Rattle.c6x_asm_text.specs.Lines.{counted, sized, read_line, lined, ends_in_newline};
+ghost use Rattle.c6x_asm_text.specs.Running.{is_end, run_from, Runs, Goes};
 
-use crate::begun::Begun;
-use crate::stop::Stop;
+use crate::broken::Broken;
+use c6x_asm_limits::{Weight, before_line, is_large_with, reweighed, weight_of};
 use c6x_asm_lines::{Lexeme, lexeme_of, line_of};
 use c6x_asm_object::Object;
 use c6x_asm_operands::AsmRule;
@@ -14,16 +18,16 @@ use c6x_asm_steps::step;
 use c6x_lex::Token;
 use std::alloc::{AllocError, Global};
 
-fn read_line(
+fn read_line<'a>(
     alloc: Global,
-    text: &[u8],
+    text: &'a [u8],
     number: u32,
     lexemes: &[Lexeme],
-    object: &mut Object,
+    object: &mut Object<'a>,
 ) -> Result<Result<(), AsmRule>, AllocError>
-    requires sound { IsSound object.old }
+    requires sound { IsSound text.now object.old }
     ensures is { IfOk result (λ done. Becomes done object.new (read_line text.now number (line_of lexemes.now) (state_of object.old))) }
-    ensures sound { IfOk result (λ done. IsSound object.new) }
+    ensures sound { IfOk result (λ done. IsSound text.now object.new) }
 {
     match line_of(alloc, lexemes)? {
         None => Ok(Err(AsmRule::Syntax)),
@@ -31,20 +35,92 @@ fn read_line(
     }
 }
 
-#[tactic(auto, unfolding(crate::specs::Running::lined))]
-fn add_line(
+// The weight of the sections goes with them, so that a line takes no walk over them.
+fn read_weighed<'a>(
     alloc: Global,
-    text: &[u8],
+    text: &'a [u8],
     number: u32,
     lexemes: &[Lexeme],
-    object: &mut Object,
+    object: &mut Object<'a>,
+    weight: &mut Weight,
 ) -> Result<Result<(), AsmRule>, AllocError>
-    requires sound { IsSound object.old }
-    ensures is { IfOk result (λ done. Becomes done object.new (lined text.now number lexemes.now (state_of object.old))) }
-    ensures sound { IfOk result (λ done. IsSound object.new) }
-    ensures small { IfOk result (λ done. OnOk done (number ≤ 65536)) }
+    requires sound { IsSound text.now object.old }
+    requires weight { weight.old ≡ weight_of text.now object.old.parts.items }
+    ensures is { IfOk result (λ done. Becomes done object.new (read_line text.now number (line_of lexemes.now) (state_of object.old))) }
+    ensures sound { IfOk result (λ done. IsSound text.now object.new) }
+    ensures weight { IfOk result (λ done. OnOk done (weight.new ≡ weight_of text.now object.new.parts.items)) }
 {
+    let before = before_line(text, &object.parts, object.current);
     match read_line(alloc, text, number, lexemes, object)? {
+        Err(rule) => Ok(Err(rule)),
+        Ok(()) => {
+            *weight = reweighed(text, *weight, before, &object.parts);
+            Ok(Ok(()))
+        }
+    }
+}
+
+// `Large` where the object of the lines so far passes a limit.
+fn limit_fault(text: &[u8], object: &Object, weight: Weight) -> Option<AsmRule>
+    requires sound { IsSound text.now object.now }
+    requires weight { weight ≡ weight_of text.now object.now.parts.items }
+    ensures { result ≡ (if is_large text.now object.now.parts.items object.now.symbols.list.items then Some Large else None) }
+{
+    let symbols = &object.symbols;
+    if is_large_with(
+        text,
+        &object.parts,
+        &symbols.list,
+        symbols.names_len,
+        weight,
+    ) {
+        Some(AsmRule::Large)
+    } else {
+        None
+    }
+}
+
+fn sized<'a>(
+    alloc: Global,
+    text: &'a [u8],
+    number: u32,
+    lexemes: &[Lexeme],
+    object: &mut Object<'a>,
+    weight: &mut Weight,
+) -> Result<Result<(), AsmRule>, AllocError>
+    requires sound { IsSound text.now object.old }
+    requires weight { weight.old ≡ weight_of text.now object.old.parts.items }
+    ensures is { IfOk result (λ done. Becomes done object.new (sized text.now (read_line text.now number (line_of lexemes.now) (state_of object.old)))) }
+    ensures sound { IfOk result (λ done. IsSound text.now object.new) }
+    ensures weight { IfOk result (λ done. OnOk done (weight.new ≡ weight_of text.now object.new.parts.items)) }
+{
+    match read_weighed(alloc, text, number, lexemes, object, weight)? {
+        Err(rule) => Ok(Err(rule)),
+        Ok(()) => match limit_fault(text, object, *weight) {
+            Some(rule) => Ok(Err(rule)),
+            None => Ok(Ok(())),
+        },
+    }
+}
+
+#[tactic(auto, unfolding(crate::specs::Lines::lined))]
+/// Adds a line, or answers the lowest rule that it breaks.
+pub fn add_line<'a>(
+    alloc: Global,
+    text: &'a [u8],
+    number: u32,
+    lexemes: &[Lexeme],
+    object: &mut Object<'a>,
+    weight: &mut Weight,
+) -> Result<Result<(), AsmRule>, AllocError>
+    requires sound { IsSound text.now object.old }
+    requires weight { weight.old ≡ weight_of text.now object.old.parts.items }
+    ensures is { IfOk result (λ done. Becomes done object.new (lined text.now number lexemes.now (state_of object.old))) }
+    ensures sound { IfOk result (λ done. IsSound text.now object.new) }
+    ensures small { IfOk result (λ done. OnOk done (number ≤ 65536)) }
+    ensures weight { IfOk result (λ done. OnOk done (weight.new ≡ weight_of text.now object.new.parts.items)) }
+{
+    match sized(alloc, text, number, lexemes, object, weight)? {
         Err(rule) => Ok(Err(rule)),
         Ok(()) => {
             if number > 65_536 {
@@ -56,112 +132,83 @@ fn add_line(
     }
 }
 
-fn ends_in_newline(text: &[u8]) -> bool
+/// Whether the last byte of a text is a newline.
+pub fn ends_in_newline(text: &[u8]) -> bool
     ensures { result ≡ ends_in_newline text.now }
 {
     !text.is_empty() && text[text.len() - 1] == b'\n'
 }
 
-#[tactic(auto, unfolding(crate::specs::Running::last_lined))]
-fn add_last(
-    alloc: Global,
-    text: &[u8],
-    number: u32,
-    lexemes: &[Lexeme],
-    object: &mut Object,
-) -> Result<Result<(), AsmRule>, AllocError>
-    requires sound { IsSound object.old }
-    ensures is { IfOk result (λ done. Becomes done object.new (last_lined text.now number lexemes.now (state_of object.old))) }
-    ensures sound { IfOk result (λ done. IsSound object.new) }
-{
-    if ends_in_newline(text) {
-        read_line(alloc, text, number, lexemes, object)
-    } else {
-        add_line(alloc, text, number, lexemes, object)
-    }
-}
-
 // One token further.
-fn advance(
+fn advance<'a>(
     alloc: Global,
-    text: &[u8],
+    text: &'a [u8],
     token: Token,
-    begun: Begun,
+    line: u32,
     lexemes: &mut Vec<Lexeme>,
-    object: &mut Object,
-) -> Result<Result<Begun, AsmRule>, AllocError>
+    object: &mut Object<'a>,
+    weight: &mut Weight,
+) -> Result<Result<u32, AsmRule>, AllocError>
     requires inside { token.at + token.len ≤ length text.now }
     requires small { length text.now < 2 ^ 32 }
     requires some { 1 ≤ token.len }
-    requires lines { begun.line ≤ 65537 }
-    requires room { begun.next < 2 ^ 63 }
-    requires sound { IsSound object.old }
-    ensures goes { IfOk result (λ r. (tokens : List Token) → Goes r begun (run_from text.now begun lexemes.old.items (state_of object.old) (token ∷ tokens)) (λ c. run_from text.now c lexemes.new.items (state_of object.new) tokens)) }
-    ensures lines { IfOk result (λ r. IfOk r (λ c. c.line ≤ 65537)) }
-    ensures next { IfOk result (λ r. IfOk r (λ c. c.next ≡ begun.next + 1)) }
-    ensures before { IfOk result (λ r. IfOk r (λ c. begun.before ≤ begun.next → c.before ≤ c.next)) }
-    ensures sound { IfOk result (λ r. IsSound object.new) }
+    requires lines { line ≤ 65537 }
+    requires sound { IsSound text.now object.old }
+    requires weight { weight.old ≡ weight_of text.now object.old.parts.items }
+    ensures goes { IfOk result (λ r. (end : Option ℕ) (tokens : List Token) → is_end end line ≡ false → Goes r line (run_from text.now end line lexemes.old.items (state_of object.old) (token ∷ tokens)) (λ next. run_from text.now end next lexemes.new.items (state_of object.new) tokens)) }
+    ensures lines { IfOk result (λ r. IfOk r (λ next. next ≤ 65537)) }
+    ensures sound { IfOk result (λ r. IsSound text.now object.new) }
+    ensures weight { IfOk result (λ r. OnOk r (weight.new ≡ weight_of text.now object.new.parts.items)) }
 {
     match lexeme_of(text, token) {
         Some(lexeme) => {
             lexemes.push(lexeme).map_err(AllocError::from)?;
-            Ok(Ok(Begun {
-                line: begun.line,
-                before: begun.before,
-                next: begun.next + 1,
-            }))
+            Ok(Ok(line))
         }
-        None => match add_line(alloc, text, begun.line, lexemes.as_slice(), object)? {
+        None => match add_line(alloc, text, line, lexemes.as_slice(), object, weight)? {
             Err(rule) => Ok(Err(rule)),
             Ok(()) => {
                 lexemes.clear();
-                Ok(Ok(Begun {
-                    line: begun.line + 1,
-                    before: begun.next + 1,
-                    next: begun.next + 1,
-                }))
+                Ok(Ok(line + 1))
             }
         },
     }
 }
 
-/// Goes through the lines of a text's tokens, up to the first that breaks a rule.
-#[tactic(auto, unfolding(crate::specs::Running::run_of), using(crate::proofs::Inside::token_inside, crate::proofs::Inside::token_some))]
-pub fn run(
+fn is_end(end: Option<u32>, line: u32) -> bool
+    ensures { result ≡ is_end end line }
+{
+    end == Some(line)
+}
+
+/// Goes through the lines of a text's tokens that a line end ends, up to the first that breaks a rule
+/// or to the line with the number `end`. The answer is the number of the line that has begun;
+/// `lexemes` are then its.
+#[tactic(auto, using(crate::proofs::Inside::token_inside, crate::proofs::Inside::token_some, crate::proofs::Passes::run_ends))]
+pub fn run<'a>(
     alloc: Global,
-    text: &[u8],
+    text: &'a [u8],
     tokens: &[Token],
-    object: &mut Object,
-) -> Result<Option<Stop>, AllocError>
+    end: Option<u32>,
+    lexemes: &mut Vec<Lexeme>,
+    object: &mut Object<'a>,
+) -> Result<Result<u32, Broken>, AllocError>
     requires small { length text.now < 2 ^ 32 }
     requires spans { AreSpans text.now 0 tokens.now }
-    requires sound { IsSound object.old }
-    ensures is { IfOk result (λ stop. Runs stop object.new (run_of text.now (state_of object.old) tokens.now)) }
-    ensures before { IfOk result (λ stop. IfSome stop (λ s. s.before ≤ length tokens.now)) }
-    ensures sound { IfOk result (λ stop. IsSound object.new) }
+    requires sound { IsSound text.now object.old }
+    ensures is { IfOk result (λ r. Runs r lexemes.new.items object.new (run_from text.now end 1 lexemes.old.items (state_of object.old) tokens.now)) }
+    ensures sound { IfOk result (λ r. IsSound text.now object.new) }
 {
-    let mut begun = Begun {
-        line: 1,
-        before: 0,
-        next: 0,
-    };
-    let mut lexemes = Vec::new(alloc);
+    let mut line = 1;
+    let mut weight = weight_of(text, &object.parts);
     for token in tokens {
-        match advance(alloc, text, *token, begun, &mut lexemes, object)? {
-            Ok(next) => begun = next,
-            Err(rule) => return Ok(Some(Stop {
-                rule,
-                line: begun.line,
-                before: begun.before,
-            })),
+        if is_end(end, line) {
+            return Ok(Ok(line));
+        }
+        match advance(alloc, text, *token, line, lexemes, object, &mut weight)? {
+            Ok(next) => line = next,
+            Err(rule) => return Ok(Err(Broken { rule, line })),
         }
     }
-    match add_last(alloc, text, begun.line, lexemes.as_slice(), object)? {
-        Ok(()) => Ok(None),
-        Err(rule) => Ok(Some(Stop {
-            rule,
-            line: begun.line,
-            before: begun.before,
-        })),
-    }
+    Ok(Ok(line))
 }
