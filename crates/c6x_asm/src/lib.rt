@@ -2,11 +2,12 @@
 #![tactic(auto)]
 
 mod assembling;
-mod sizes;
 
-pub use assembling::object_of;
+pub use assembling::assemble;
 pub use c6x_asm_operands::AsmRule;
-pub use c6x_asm_text::AsmError;
+pub use c6x_asm_text::{AsmError, Broken};
 
+#[cfg(test)]
+mod refusals;
 #[cfg(test)]
 mod tests;

@@ -1,11 +1,11 @@
-use crate::{AsmError, AsmRule, object_of};
+use crate::{AsmError, AsmRule, assemble};
 use std::test::Fail;
 
 #[test]
 fn the_source_of_a_library(rt: HostRuntime) -> Result<(), Fail> {
     let text =
         b"  .sect \".text\"\n  .global twice\ntwice: STW .D2T2 B14,*B15--[2]\n  LDW .D2T2 *+B14(%dsbt_index),B14\n  NOP 4\n  LDW .D2T1 *+B14(count),A5\n  BNOP .S2 B3,5\n  .sect \".neardata\"\ncount: .word 10\n".as_slice();
-    let file = object_of(rt.alloc(), text)?.ok_or("no object")?;
+    let file = assemble(rt.alloc(), text)?;
     let sections = file.sections.as_slice();
     assert_eq!(rt; sections.len(), 7);
     assert!(rt;
@@ -27,7 +27,7 @@ fn the_source_of_a_library(rt: HostRuntime) -> Result<(), Fail> {
 #[test]
 fn two_instructions_on_one_unit(rt: HostRuntime) -> Result<(), Fail> {
     let text = b".sect \".text\"\nMVK .S1 1,A4\n|| MVK .S1 2,A5\n.foo".as_slice();
-    let answer = object_of(rt.alloc(), text);
+    let answer = assemble(rt.alloc(), text);
     assert!(rt;
         matches!(
             &answer,
