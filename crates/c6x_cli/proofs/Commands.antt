@@ -1,16 +1,17 @@
-use Rattle.std.proofs.Common.{◌≡◌, ℕ, List, length, refl}
+use Rattle.std.proofs.Common.{◌≡◌, ℕ, List, [], ◌∷◌, length, refl}
 use Rattle.std.specs.Prelude.{Option, Some, Result, Ok, Err}
 use Rattle.c6x_spec.specs.Files.{Files}
 use Rattle.c6x_spec.specs.Memory.{Memory}
 use Rattle.c6x_cli.specs.declared.cause.Cause.TheVariants.{Usage, Missing, Refused}
 use Rattle.c6x_cli.specs.declared.command_word.Command.{Command}
-use Rattle.c6x_cli.specs.declared.command_word.Command.TheVariants.{Map, Run}
+use Rattle.c6x_cli.specs.declared.command_word.Command.TheVariants.{Assemble, Map, Run}
 use Rattle.c6x_cli.specs.declared.loading.Loading.{Loading}
 use Rattle.c6x_cli.specs.declared.stop.Stop.{Stop}
 use Rattle.c6x_cli.specs.declared.stop.Stop.TheVariants.{Because, ReadFault, Memory as memory}
+use Rattle.c6x_cli.specs.Assembling.{object_bytes}
 use Rattle.c6x_cli.specs.Exits.{Done}
 use Rattle.c6x_cli.specs.Loading.{loading_of, fetches_of}
-use Rattle.c6x_cli.specs.Result.{result_of, done_of, fetched_by, map_done, run_done}
+use Rattle.c6x_cli.specs.Result.{result_of, done_of, fetched_by, map_done, run_done, store_done}
 use Rattle.c6x_cli.specs.Steps.{Stops, Gives}
 use Rattle.c6x_cli.specs.Words.{Reads}
 
@@ -36,6 +37,18 @@ unfolding done_of fetched_by
 run_stops files plan board (Because cause) is = rw is refl
 run_stops files plan board (ReadFault name) is = is
 run_stops files plan board memory is = tt
+
+-- the object that is made for `as` is what it stores
+pub assembling_is_done : (files : Files) (input output bytes : List ℕ) (board : Memory) → object_bytes files input ≡ Ok bytes → done_of (Assemble input output) files board ≡ Ok (store_done output bytes board)
+unfolding done_of
+assembling_is_done files input output bytes board is = rw is refl
+
+-- what stops its making stops `as`
+pub assembling_stops : (files : Files) (input output : List ℕ) (board : Memory) (stop : Stop) → Stops stop (object_bytes files input) (input ∷ []) → Stops stop (done_of (Assemble input output) files board) (fetched_by (Some (Assemble input output)) files)
+unfolding done_of fetched_by
+assembling_stops files input output board (Because cause) is = rw is refl
+assembling_stops files input output board (ReadFault name) is = is
+assembling_stops files input output board memory is = tt
 
 -- words without a reading stop the command
 pub usage_stops : (read : Option Command) (files : Files) (board : Memory) (names : List (List ℕ)) (stop : Stop) → Reads (Err stop) read → Stops stop (result_of read files board) names

@@ -3,16 +3,14 @@ use Rattle.std.specs.Prelude.{Result, Ok, Err}
 use Rattle.c6x_cli.specs.declared.cause.Cause.{Cause}
 use Rattle.c6x_cli.specs.declared.stop.Stop.{Stop}
 use Rattle.c6x_cli.specs.declared.stop.Stop.TheVariants.{Because, ReadFault, Memory}
-use Rattle.c6x_cli.specs.Exits.{Done, Devices, Exits, Untouched, SpeaksOn, StopsByDevice, IsDone, IsCut}
+use Rattle.c6x_cli.specs.Exits.{Done, Devices, Ends, Exits, Untouched, SpeaksOn, StopsByDevice}
 use Rattle.c6x_cli.specs.Lines.{stop_line, stop_status}
 use Rattle.c6x_cli.specs.Steps.{Stops}
 
--- a command that is done ends as its definition says
-pub exits_done : (read : Result Done Cause) (done : Done) (fetches : List (List ℕ)) (status : ℕ) (d : Devices) → read ≡ Ok done → status ≡ 0 → IsDone done d → Exits read fetches status d
-exits_done read done fetches status d is zero_is all = rw is (inl (inl (zero_is, all)))
-
-pub exits_cut : (read : Result Done Cause) (done : Done) (fetches : List (List ℕ)) (status : ℕ) (d : Devices) → read ≡ Ok done → status ≡ 6 → IsCut done status d → Exits read fetches status d
-exits_cut read done fetches status d is six cut = rw is (inl (inr (six, cut)))
+-- a command that nothing stopped before its first write ends as its definition says, or for want of memory
+pub exits_ended : (read : Result Done Cause) (done : Done) (fetches : List (List ℕ)) (status : ℕ) (d : Devices) → read ≡ Ok done → Ends done status d → Exits read fetches status d
+exits_ended read done fetches status d is (inl ends) = rw is (inl ends)
+exits_ended read done fetches status d is (inr memory) = rw is (inr (record { cause = inr memory }))
 
 by_device : (read : Result Done Cause) (fetches : List (List ℕ)) (status : ℕ) (d : Devices) → StopsByDevice fetches status d → Exits read fetches status d
 by_device (Ok _) fetches status d stops = inr stops

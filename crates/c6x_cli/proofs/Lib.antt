@@ -2,6 +2,8 @@ pub mod Items
 pub mod Text
 pub mod Fetched
 pub mod Loads
+pub mod Objects
+pub mod Stores
 pub mod Lines
 pub mod Slots
 pub mod Ends

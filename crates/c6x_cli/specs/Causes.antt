@@ -1,4 +1,4 @@
-use Rattle.std.specs.Prelude.{◌≡◌, ◌≢◌, ℕ, ◌⊎◌, Option, None, IsSome, Result, Ok, Err}
+use Rattle.std.specs.Prelude.{◌≡◌, ◌≢◌, ◌≤◌, ℕ, ◌⊎◌, Bool, false, IsTrue, Option, None, IsSome, Result, Ok, Err}
 use Rattle.c6x_spec.specs.Files.{Rose}
 use Rattle.c6x_spec.specs.Sinks.{Takes}
 use Rattle.c6x_cli.specs.declared.cause.Cause.TheVariants.{Usage, Missing, Refused}
@@ -9,11 +9,26 @@ use Rattle.c6x_cli.specs.Exits.{Devices, Untouched}
 use Rattle.c6x_cli.specs.Lines.{stop_line, stop_status}
 use Rattle.c6x_cli.specs.Steps.{Counts}
 
+-- The counts of faults of all that is written to, before a command and after it.
+pub record WriteFaults : Type 0 where
+  pub out_before : ℕ
+  pub out_after : ℕ
+  pub err_before : ℕ
+  pub err_after : ℕ
+  pub shelf_before : ℕ
+  pub shelf_after : ℕ
+
+-- A fault of the output or of the error output was counted, or of a store where the command stores.
+abbrev pub ShowsFault : Bool → WriteFaults → Type 0
+ShowsFault storing writes =
+    Rose writes.out_before writes.out_after
+    ⊎ (Rose writes.err_before writes.err_after ⊎ (IsTrue storing × Rose writes.shelf_before writes.shelf_after))
+
 -- What a status shows of the counts, whatever the shelf tells.
-pub record Causes (status : ℕ) (counts : Counts) (out_before out_after err_before err_after : ℕ) : Type 0 where
+pub record Causes (status : ℕ) (storing : Bool) (counts : Counts) (writes : WriteFaults) : Type 0 where
   pub missing : status ≡ 3 → Rose counts.absences_before counts.absences_after
   pub read_fault : status ≡ 5 → Rose counts.faults_before counts.faults_after
-  pub write_fault : status ≡ 6 → Rose out_before out_after ⊎ Rose err_before err_after
+  pub write_fault : status ≡ 6 → ShowsFault storing writes
 
 -- What stands beside a status: nothing on the error output after 0, and after a stop its line alone.
 pub record Spoken (status : ℕ) (d : Devices) : Type 0 where
@@ -33,3 +48,12 @@ TellsUsage (Err Memory) read = Unit {0}
 pub record EndsUsage (status : ℕ) (read : Option Command) : Type 0 where
   pub only : status ≡ 2 → read ≡ None
   pub whenever : read ≡ None → (status ≡ 2) ⊎ ((status ≡ 6) ⊎ (status ≡ 7))
+
+-- What a command keeps, whatever the shelf tells: one that stores writes no output and no board, and no other one changes
+-- the shelf.
+pub record Keeps (storing : Bool) (d : Devices) (writes : WriteFaults) : Type 0 where
+  pub out : IsTrue storing → d.out_after ≡ d.out_before
+  pub board : IsTrue storing → d.board_after ≡ d.board_before
+  pub files : storing ≡ false → d.files_after ≡ d.files_before
+  pub write_faults : storing ≡ false → writes.shelf_after ≡ writes.shelf_before
+  pub counted : writes.shelf_before ≤ writes.shelf_after

@@ -1,25 +1,30 @@
 use Rattle.std.specs.Prelude.{◌≡◌, ℕ, ◌⊎◌, List, Option, Result, Ok, Err, Contains}
-use Rattle.c6x_spec.specs.Files.{Rose}
+use Rattle.c6x_spec.specs.Files.{Files, Rose}
 use Rattle.c6x_spec.specs.Memory.{Memory}
 use Rattle.c6x_spec.specs.Sinks.{Takes, TakesFront}
 use Rattle.c6x_cli.specs.declared.cause.Cause.{Cause}
 use Rattle.c6x_cli.specs.Lines.{line_of, status_of, read_fault_line, write_fault_line, memory_line}
+use Rattle.c6x_cli.specs.Stores.{HasStored, HasCutStore}
 
--- What a command that is carried out leaves: the text on its output and the board. The opening is the front of the text
--- that is put before anything runs, and the board is then as opened.
+-- What a command that is carried out leaves: the text on its output, the board, and what it stores on the shelf. The
+-- opening is the front of the text that is put before anything runs, and the board is then as opened.
 pub record Done : Type 0 where
   pub opening : List ℕ
   pub opened : Memory
   pub text : List ℕ
   pub board : Memory
+  pub stored : Option (List ℕ × List ℕ)
 
 -- A fault of the output cut the opening, with the board as opened, or else the text, with the board at its end.
 abbrev pub CutsDone : Done → Option (List ℕ) → Option (List ℕ) → Memory → Type 0
 CutsDone done before now board =
     (TakesFront done.opening before now × (board ≡ done.opened)) ⊎ (TakesFront done.text before now × (board ≡ done.board))
 
--- The devices before a command and after it: what the two sinks took, the faults of the error sink, and the board.
+-- The devices before a command and after it: the files that the shelf tells, what the two sinks took, the faults of the
+-- error sink, and the board.
 pub record Devices : Type 0 where
+  pub files_before : Option Files
+  pub files_after : Option Files
   pub out_before : Option (List ℕ)
   pub out_after : Option (List ℕ)
   pub err_before : Option (List ℕ)
@@ -39,8 +44,9 @@ abbrev pub SpeaksOn : List ℕ → ℕ → ℕ → Devices → Type 0
 SpeaksOn line wanted status d =
     Speaks line wanted status d.err_before d.err_after d.err_faults_before d.err_faults_after
 
--- The board and the output are as they were.
+-- The files, the board and the output are as they were.
 pub record Untouched (d : Devices) : Type 0 where
+  pub files : d.files_after ≡ d.files_before
   pub out : d.out_after ≡ d.out_before
   pub board : d.board_after ≡ d.board_before
 
@@ -49,16 +55,23 @@ pub record Says (line : List ℕ) (wanted status : ℕ) (d : Devices) : Type 0 w
   pub untouched : Untouched d
   pub said : SpeaksOn line wanted status d
 
--- All was done: the whole text on the output, nothing on the error output, and the board.
+-- All was done: the whole text on the output, nothing on the error output, the board, and the store alone on the shelf.
 pub record IsDone (done : Done) (d : Devices) : Type 0 where
   pub out : Takes done.text d.out_before d.out_after
   pub err : d.err_after ≡ d.err_before
   pub board : d.board_after ≡ done.board
+  pub files : HasStored done.stored d.files_before d.files_after
 
--- The board was written, and a fault of the output cut the opening, or else the text.
+-- The board was written, and a fault of the output cut the opening, or else the text; or the store met a fault.
 pub record IsCut (done : Done) (status : ℕ) (d : Devices) : Type 0 where
   pub out : CutsDone done d.out_before d.out_after d.board_after
+  pub files : HasCutStore done.stored d.files_before d.files_after
   pub err : SpeaksOn write_fault_line 6 status d
+
+-- How a command ends that nothing stopped before its first write: all was done, or a fault cut it, or memory ran out.
+abbrev pub Ends : Done → ℕ → Devices → Type 0
+Ends done status d =
+    (((status ≡ 0) × IsDone done d) ⊎ ((status ≡ 6) × IsCut done status d)) ⊎ Says memory_line 7 status d
 
 -- A device or memory stopped the command: a file of one of these names could not be read, or memory ran out.
 pub record StopsByDevice (fetches : List (List ℕ)) (status : ℕ) (d : Devices) : Type 0 where

@@ -1,6 +1,10 @@
 use Rattle.std.specs.Prelude.{ℕ, List, ◌++◌, codes, decimal}
+use Rattle.c6x_asm_operands.specs.declared.rule.AsmRule.{AsmRule}
+use Rattle.c6x_asm_operands.specs.declared.rule.AsmRule.TheVariants.{BadByte, Syntax, UnknownWord, Operand, Range, Packet, DuplicateLabel, NoSection, Large as LargeText}
+use Rattle.c6x_elf_heads.specs.declared.elf_rule.ElfRule.{ElfRule}
+use Rattle.c6x_elf_heads.specs.declared.elf_rule.ElfRule.TheVariants.{Short, Magic, Class, Data, Version, Machine, FileType, EntrySize, Index, NoNul, Large}
 use Rattle.c6x_cli.specs.declared.cause.Rule.{Rule}
-use Rattle.c6x_cli.specs.declared.cause.Rule.TheVariants.{NotBuilt}
+use Rattle.c6x_cli.specs.declared.cause.Rule.TheVariants.{NotBuilt, Elf, Assembly}
 use Rattle.c6x_cli.specs.declared.cause.Cause.{Cause}
 use Rattle.c6x_cli.specs.declared.cause.Cause.TheVariants.{Usage, Missing, Refused}
 use Rattle.c6x_cli.specs.declared.stop.Stop.{Stop}
@@ -9,8 +13,34 @@ use Rattle.c6x_cli.specs.declared.stop.Stop.TheVariants.{Because, ReadFault, Mem
 -- The lines of the error output. Each ends with a newline.
 
 -- A rule's code and word.
+unfoldable pub elf_words : ElfRule → List ℕ
+elf_words Short = codes "E1 Short"
+elf_words Magic = codes "E2 Magic"
+elf_words Class = codes "E3 Class"
+elf_words Data = codes "E4 Data"
+elf_words Version = codes "E5 Version"
+elf_words Machine = codes "E6 Machine"
+elf_words FileType = codes "E7 FileType"
+elf_words EntrySize = codes "E8 EntrySize"
+elf_words Index = codes "E9 Index"
+elf_words NoNul = codes "E10 NoNul"
+elf_words Large = codes "E11 Large"
+
+unfoldable pub assembly_words : AsmRule → List ℕ
+assembly_words BadByte = codes "A1 BadByte"
+assembly_words Syntax = codes "A2 Syntax"
+assembly_words UnknownWord = codes "A3 UnknownWord"
+assembly_words Operand = codes "A4 Operand"
+assembly_words Range = codes "A5 Range"
+assembly_words Packet = codes "A6 Packet"
+assembly_words DuplicateLabel = codes "A7 DuplicateLabel"
+assembly_words NoSection = codes "A8 NoSection"
+assembly_words LargeText = codes "A9 Large"
+
 unfoldable pub rule_words : Rule → List ℕ
 rule_words NotBuilt = codes "X1 NotBuilt"
+rule_words (Elf rule) = elf_words rule
+rule_words (Assembly rule) = assembly_words rule
 
 unfoldable pub usage_line : List ℕ
 usage_line = codes "c6x: usage\n"

@@ -66,10 +66,10 @@ IsNoUsage (Because (Refused _)) = Unit {0}
 IsNoUsage (ReadFault _) = Unit {0}
 IsNoUsage Memory = Unit {0}
 
--- A stop names the subject that is not built yet, or memory ran out.
-abbrev pub IsNotBuilt : Stop → List ℕ → Type 0
-IsNotBuilt (Because (Refused refusal)) subject = refusal ≡ not_built subject
-IsNotBuilt (Because (Missing _)) subject = ⊥
-IsNotBuilt (Because Usage) subject = ⊥
-IsNotBuilt (ReadFault _) subject = ⊥
-IsNotBuilt Memory subject = Unit {0}
+-- A stop is this refusal, or memory ran out.
+abbrev pub Refuses : Stop → Refusal → Type 0
+Refuses (Because (Refused refusal)) wanted = refusal ≡ wanted
+Refuses (Because (Missing _)) wanted = ⊥
+Refuses (Because Usage) wanted = ⊥
+Refuses (ReadFault _) wanted = ⊥
+Refuses Memory wanted = Unit {0}

@@ -1,7 +1,7 @@
-use Rattle.std.specs.Prelude.{◌≡◌, ℕ, Bool, ◌&&◌, not, List, [], ◌∷◌, length, slice_index, nat_eq, Option, None, Some, Result, Ok, Err, codes, if◌then◌else◌}
+use Rattle.std.specs.Prelude.{◌≡◌, ℕ, Bool, true, false, ◌&&◌, not, List, [], ◌∷◌, length, slice_index, nat_eq, Option, None, Some, Result, Ok, Err, codes, if◌then◌else◌}
 use Rattle.std.specs.Str.{bytes_eq, is_utf8}
 use Rattle.c6x_cli.specs.declared.command_word.Command.{Command}
-use Rattle.c6x_cli.specs.declared.command_word.Command.TheVariants.{Map, Run}
+use Rattle.c6x_cli.specs.declared.command_word.Command.TheVariants.{Assemble, Map, Run}
 use Rattle.c6x_cli.specs.declared.cause.Cause.TheVariants.{Usage}
 use Rattle.c6x_cli.specs.declared.stop.Stop.{Stop}
 use Rattle.c6x_cli.specs.declared.stop.Stop.TheVariants.{Because, Memory}
@@ -10,17 +10,21 @@ use Rattle.c6x_cli.specs.declared.stop.Stop.TheVariants.{Because, Memory}
 unfoldable pub is_positional : List ℕ → Bool
 is_positional word = not (nat_eq (length word) 0) && not (nat_eq (slice_index word 0) 45) && is_utf8 word
 
--- The command that a verb and a file ask for.
-unfoldable pub asked : List ℕ → List ℕ → Option Command
-asked verb file =
-    if is_positional file
-    then (if bytes_eq verb (codes "map") then Some (Map file)
-    else (if bytes_eq verb (codes "run") then Some (Run file) else None))
-    else None
+-- The command that a verb and one file ask for.
+unfoldable pub asked_of_one : List ℕ → List ℕ → Option Command
+asked_of_one verb file =
+    if bytes_eq verb (codes "map") then Some (Map file)
+    else (if bytes_eq verb (codes "run") then Some (Run file) else None)
+
+-- The command that a verb and two files ask for.
+unfoldable pub asked_of_two : List ℕ → List ℕ → List ℕ → Option Command
+asked_of_two verb first second = if bytes_eq verb (codes "as") then Some (Assemble first second) else None
 
 -- The command that the words ask for, where they have a reading.
 unfoldable pub command_of : List (List ℕ) → Option Command
-command_of (verb ∷ file ∷ []) = asked verb file
+command_of (verb ∷ file ∷ []) = if is_positional file then asked_of_one verb file else None
+command_of (verb ∷ first ∷ second ∷ []) =
+    if is_positional first && is_positional second then asked_of_two verb first second else None
 command_of _ = None
 
 -- The words are read so, or have no reading. Want of memory is free.
@@ -29,3 +33,10 @@ Reads (Ok command) read = read ≡ Some command
 Reads (Err (Because Usage)) read = read ≡ None
 Reads (Err Memory) read = Unit {0}
 Reads (Err _) read = ⊥
+
+-- The command stores a file.
+abbrev pub is_storing : Option Command → Bool
+is_storing None = false
+is_storing (Some (Assemble input output)) = true
+is_storing (Some (Map plan)) = false
+is_storing (Some (Run plan)) = false

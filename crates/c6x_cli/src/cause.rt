@@ -1,10 +1,17 @@
+use c6x_asm::AsmRule;
 use c6x_base::Name;
+use c6x_elf::ElfRule;
 
 /// A rule that a refusal names.
 #[derive(Clone, Copy, Debug, PartialEq, Eq)]
 pub enum Rule {
     /// X1: well-formed input that this program does not build yet.
     NotBuilt,
+    /// E1 to E11: a rule of ELF files. E11 at 0 is also the rule of every file that is fetched whole: it may not be
+    /// longer than a file may be.
+    Elf(ElfRule),
+    /// A1 to A9: a rule of assembly texts.
+    Assembly(AsmRule),
 }
 
 /// The first broken rule, with what breaks it.

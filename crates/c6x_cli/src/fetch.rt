@@ -1,15 +1,15 @@
 ghost use Rattle.std.specs.Prelude.{◌≡◌, ℕ, ◌≤◌, List, [], ◌∷◌, Some, IfErr};
 ghost use Rattle.c6x_spec.specs.Files.{Files, front_at, Rose};
-ghost use Rattle.c6x_cli.specs.Steps.{fetched, Gives, HasCause, IsNotBuilt, IsNoUsage, most_bytes};
+ghost use Rattle.c6x_cli.specs.Steps.{fetched, Gives, HasCause, IsNoUsage, most_bytes};
 
-use crate::cause::{Cause, Refusal, Rule};
+use crate::cause::Cause;
 use crate::stop::Stop;
 use c6x_base::Name;
 use c6x_ports::{Shelf, ShelfError};
 use std::alloc::Global;
 
 /// The greatest number of bytes that a command takes of a file.
-const MOST_BYTES: u32 = 4_194_304;
+pub const MOST_BYTES: u32 = 4_194_304;
 
 /// The bytes of a file, as far as a command takes them.
 #[tactic(auto, using(crate::proofs::Fetched::front_of_none), unfolding(crate::specs::Steps::fetched, crate::specs::Steps::most_bytes))]
@@ -32,19 +32,5 @@ pub fn fetch_file<S: Shelf>(alloc: Global, shelf: &mut S, name: &Name) -> Result
         Err(ShelfError::Missing) => Err(Stop::Because(Cause::Missing(name.copy(alloc)?))),
         Err(ShelfError::Failed) => Err(Stop::ReadFault(name.copy(alloc)?)),
         Err(ShelfError::NoMemory) => Err(Stop::Memory),
-    }
-}
-
-/// The stop at a subject that is not built yet.
-pub fn not_built(alloc: Global, subject: &Name) -> Stop
-    ensures { IsNotBuilt result subject.now }
-{
-    match subject.copy(alloc) {
-        Ok(subject) => Stop::Because(Cause::Refused(Refusal {
-            rule: Rule::NotBuilt,
-            subject,
-            number: 0,
-        })),
-        Err(_) => Stop::Memory,
     }
 }

@@ -5,13 +5,14 @@ ghost use Rattle.c6x_module.specs.Plain.{plain_module};
 ghost use Rattle.c6x_module.specs.Valid.{IsValid, IsAlone};
 ghost use Rattle.c6x_plan.specs.Plain.{plain_plan};
 ghost use Rattle.c6x_load.specs.Placement.{IsStack, IsPlacement, placed_one};
-ghost use Rattle.c6x_cli.specs.Steps.{Gives, HasCause, IsOwn, IsNoUsage, IsNotBuilt, or_not_built};
+ghost use Rattle.c6x_cli.specs.Steps.{Gives, HasCause, IsOwn, IsNoUsage, or_not_built};
 ghost use Rattle.c6x_cli.specs.declared.stop.Stop.TheVariants.{Memory as memory};
 ghost use Rattle.c6x_cli.specs.Run.{IsFresh};
 ghost use Rattle.c6x_cli.specs.Loading.{loading_of, fetches_of, IsReady};
 
-use crate::fetch::{fetch_file, not_built};
+use crate::fetch::fetch_file;
 use crate::loading::Loading;
+use crate::refusing::refuse_unbuilt;
 use crate::stop::Stop;
 use c6x_base::{Name, Range};
 use c6x_board::Board;
@@ -61,7 +62,7 @@ fn plan_of(alloc: Global, name: &Name, text: &[u8]) -> Result<PlainPlan, Stop>
 {
     match read_plain_plan(alloc, text) {
         Ok(plan) => Ok(plan),
-        Err(PlainPlanError::NotPlain) => Err(not_built(alloc, name)),
+        Err(PlainPlanError::NotPlain) => Err(refuse_unbuilt(alloc, name)),
         Err(PlainPlanError::NoMemory) => Err(Stop::Memory),
     }
 }
@@ -75,7 +76,7 @@ fn module_of(alloc: Global, plan: &PlainPlan, bytes: &[u8]) -> Result<Module, St
 {
     match read_plain(alloc, &plan.image, bytes) {
         Ok(image) => Ok(image),
-        Err(PlainError::NotPlain) => Err(not_built(alloc, &plan.file)),
+        Err(PlainError::NotPlain) => Err(refuse_unbuilt(alloc, &plan.file)),
         Err(PlainError::NoMemory) => Err(Stop::Memory),
     }
 }
@@ -98,7 +99,7 @@ fn one_of(
     let len = board.len();
     match place_one(image, plan.stack, board.base(), len) {
         Some(one) => Ok(one),
-        None => Err(not_built(alloc, name)),
+        None => Err(refuse_unbuilt(alloc, name)),
     }
 }
 

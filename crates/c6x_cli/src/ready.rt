@@ -1,4 +1,5 @@
 use crate::loading::Loading;
+use c6x_base::{Bytes, Name};
 use c6x_exec::Process;
 
 /// A command that nothing stops any more but its devices.
@@ -8,4 +9,6 @@ pub enum Ready {
     Map(Loading),
     /// The process is made, and has done no cycle.
     Run(Loading, Process),
+    /// These bytes are to be stored under the name.
+    Store(Name, Bytes),
 }

@@ -2,10 +2,12 @@ ghost use Rattle.std.specs.Prelude.{◌≡◌, ℕ, ◌≤◌, OnOk, OnErr};
 ghost use Rattle.c6x_spec.specs.Files.{Rose};
 ghost use Rattle.c6x_spec.specs.Sinks.{Takes, TakesFront};
 ghost use Rattle.c6x_cli.specs.Exits.{Speaks};
-ghost use Rattle.c6x_cli.specs.Lines.{rule_words, line_of, refused_line, missing_line, read_fault_line, stop_line, stop_status, status_of, usage_line, memory_line, write_fault_line};
+ghost use Rattle.c6x_cli.specs.Lines.{assembly_words, elf_words, rule_words, line_of, refused_line, missing_line, read_fault_line, stop_line, stop_status, status_of, usage_line, memory_line, write_fault_line};
 
 use crate::cause::{Cause, Refusal, Rule};
 use crate::stop::Stop;
+use c6x_asm::AsmRule;
+use c6x_elf::ElfRule;
 use c6x_ports::{Sink, SinkError, put_parts};
 use itoa::Buffer;
 
@@ -111,5 +113,45 @@ fn words_of(rule: &Rule) -> &[u8]
 {
     match rule {
         Rule::NotBuilt => b"X1 NotBuilt",
+        Rule::Elf(rule) => elf_text(rule),
+        Rule::Assembly(rule) => assembly_text(rule),
+    }
+}
+
+/// The code and the word of a rule of ELF files.
+#[tactic(auto, unfolding(crate::specs::Lines::elf_words))]
+fn elf_text(rule: &ElfRule) -> &[u8]
+    ensures { result.now ≡ elf_words rule.now }
+{
+    match rule {
+        ElfRule::Short => b"E1 Short",
+        ElfRule::Magic => b"E2 Magic",
+        ElfRule::Class => b"E3 Class",
+        ElfRule::Data => b"E4 Data",
+        ElfRule::Version => b"E5 Version",
+        ElfRule::Machine => b"E6 Machine",
+        ElfRule::FileType => b"E7 FileType",
+        ElfRule::EntrySize => b"E8 EntrySize",
+        ElfRule::Index => b"E9 Index",
+        ElfRule::NoNul => b"E10 NoNul",
+        ElfRule::Large => b"E11 Large",
+    }
+}
+
+/// The code and the word of a rule of assembly texts.
+#[tactic(auto, unfolding(crate::specs::Lines::assembly_words))]
+fn assembly_text(rule: &AsmRule) -> &[u8]
+    ensures { result.now ≡ assembly_words rule.now }
+{
+    match rule {
+        AsmRule::BadByte => b"A1 BadByte",
+        AsmRule::Syntax => b"A2 Syntax",
+        AsmRule::UnknownWord => b"A3 UnknownWord",
+        AsmRule::Operand => b"A4 Operand",
+        AsmRule::Range => b"A5 Range",
+        AsmRule::Packet => b"A6 Packet",
+        AsmRule::DuplicateLabel => b"A7 DuplicateLabel",
+        AsmRule::NoSection => b"A8 NoSection",
+        AsmRule::Large => b"A9 Large",
     }
 }

@@ -33,13 +33,41 @@ pub fn filled_devices(
 {
     let plan = stored(alloc, b"one.plan", plan)?;
     let image = stored(alloc, b"app.out", app)?;
+    let shelf = MemoryShelf::new(
+        vec![in alloc; plan, image]?,
+        Vec::from_slice(alloc, failing_calls)?,
+    );
+    devices_over(alloc, shelf, failing_puts, len)
+}
+
+/// A shelf with `in.s` and `old.o`, whose calls with these numbers fail, and a board of 64 bytes that are all 0xAA.
+pub fn text_devices(
+    alloc: Global,
+    text: &[u8],
+    failing_calls: &[u32],
+) -> Result<Devices, AllocError> {
+    let text = stored(alloc, b"in.s", text)?;
+    let old = stored(alloc, b"old.o", b"old")?;
+    let shelf = MemoryShelf::new(
+        vec![in alloc; text, old]?,
+        Vec::from_slice(alloc, failing_calls)?,
+    );
+    devices_over(alloc, shelf, &[], 64)
+}
+
+/// The devices with this shelf.
+fn devices_over(
+    alloc: Global,
+    shelf: MemoryShelf,
+    failing_puts: &[u32],
+    len: u32,
+) -> Result<Devices, AllocError>
+    requires { CanStart BASE len }
+{
     let mut board = Board::new(alloc, BASE, len)?;
     board.copy_in(BASE, &vec![in alloc; 0xAA; len as usize]?);
     Ok(Devices {
-        shelf: MemoryShelf::new(
-            vec![in alloc; plan, image]?,
-            Vec::from_slice(alloc, failing_calls)?,
-        ),
+        shelf,
         out: MemorySink::new(alloc, 65_536, Vec::from_slice(alloc, failing_puts)?)?,
         err: MemorySink::new(alloc, 65_536, Vec::new(alloc))?,
         board,

@@ -1,8 +1,11 @@
-use Rattle.c6x_cli.proofs.Items.{two_words, not_two}
+use Rattle.std.proofs.Common.{arith}
+use Rattle.c6x_cli.proofs.Items.{two_words, three_words}
 use Rattle.c6x_cli.proofs.words.read_words.Goals as goal
 
-pub returns-then-words-ne2 : goal.returns-then-words-ne2
-returns-then-words-ne2 c = not_two _ c.if-words-ne2.true
+pub returns-in-len2 : goal.returns-in-len2
+returns-in-len2 c =
+    rw (two_words c.args.words.now _ _ (omega (arith, c.in-len2.len_at_least, c.in-len2.len_below)) c.verb-item.is c.file-item.is) c.read_one.ensures
 
-pub returns : goal.returns
-returns c = rw (two_words _ _ _ c.if-words-ne2.false c.index-words-0.is c.index-words-1.is) c.read_pair.ensures
+pub returns-in-len3 : goal.returns-in-len3
+returns-in-len3 c =
+    rw (three_words c.args.words.now _ _ _ (omega (arith, c.in-len3.len_at_least, c.in-len3.len_below)) c.verb-item-then-words-lt4.is c.first-item.is c.second-item.is) c.read_two.ensures
