@@ -1,15 +1,63 @@
-use crate::devices::{BASE, Devices, perform, text_devices, word_at};
+use crate::devices::{BASE, gives, has_file, has_word, text_devices};
+use c6x_ports::MemoryShelf;
 use std::alloc::{AllocError, Global};
 
 /// A text of two instructions.
 const SOURCE: &[u8] = b".sect \".text\"\nMVK .S1 5,A4\nBNOP .S2 B3,5\n";
 
-/// Whether no command has written the output, the board or the two files of the shelf.
-fn is_untouched(d: &Devices, text: &[u8]) -> bool {
-    d.out.bytes().is_empty()
-        && word_at(&d.board, BASE) == Some(0xAAAA_AAAA)
-        && d.shelf.get(b"in.s") == Some(text)
-        && d.shelf.get(b"old.o") == Some(b"old")
+/// Whether an object file of this length stands under this name, with this code behind its header.
+fn has_object(shelf: &MemoryShelf, name: &[u8], len: usize, code: &[u8]) -> bool {
+    match shelf.get(name) {
+        Some(object) => is_object(object, len, code),
+        None => false,
+    }
+}
+
+/// Whether these bytes are an object file of this length, with this code behind its header.
+fn is_object(object: &[u8], len: usize, code: &[u8]) -> bool {
+    object.len() == len
+        && len >= 64
+        && object.starts_with(b"\x7fELF\x01\x01\x01")
+        && object[64..].starts_with(code)
+}
+
+/// Whether a command over this text stores an object file of this length and code under this name, and leaves both
+/// outputs, the board and the text as they were.
+fn is_assembled(
+    alloc: Global,
+    text: &[u8],
+    words: &str,
+    name: &str,
+    len: usize,
+    code: &[u8],
+) -> Result<bool, AllocError> {
+    let mut d = text_devices(alloc, text, &[])?;
+    Ok(
+        gives(alloc, &mut d, words, 0, "", "")?
+            && has_word(&d.board, BASE, 0xAAAA_AAAA)
+            && has_file(&d.shelf, b"in.s", text)
+            && has_object(&d.shelf, name.as_bytes(), len, code),
+    )
+}
+
+/// Whether a command over this text, on a shelf whose calls with these numbers fail, stops with this status and this
+/// line, and has not written the output, the board or the shelf.
+fn stops(
+    alloc: Global,
+    text: &[u8],
+    failing_calls: &[u32],
+    words: &str,
+    status: u8,
+    line: &str,
+) -> Result<bool, AllocError> {
+    let mut d = text_devices(alloc, text, failing_calls)?;
+    Ok(
+        gives(alloc, &mut d, words, status, "", line)?
+            && has_word(&d.board, BASE, 0xAAAA_AAAA)
+            && has_file(&d.shelf, b"in.s", text)
+            && has_file(&d.shelf, b"old.o", b"old")
+            && d.shelf.get(b"new.o").is_none(),
+    )
 }
 
 // The object is stored under the second name, in its old place or as a new file, and nothing else is written. It has the
@@ -18,15 +66,11 @@ fn is_untouched(d: &Devices, text: &[u8]) -> bool {
 fn a_text_is_assembled(rt: HostRuntime) -> Result<(), AllocError> {
     let alloc = rt.alloc();
     for (words, name) in [("as in.s new.o", "new.o"), ("as in.s old.o", "old.o")] {
-        let mut d = text_devices(alloc, SOURCE, &[])?;
-        assert_eq!(&rt; perform(alloc, &mut d, words)?, 0);
-        assert!(&rt; d.out.bytes().is_empty() && d.err.bytes().is_empty());
-        assert_eq!(&rt; word_at(&d.board, BASE), Some(0xAAAA_AAAA));
-        assert!(&rt; d.shelf.get(b"in.s") == Some(SOURCE));
-        let object = d.shelf.get(name.as_bytes()).unwrap_or(&[]);
-        assert_eq!(&rt; object.len(), 340);
-        assert!(&rt; object.starts_with(b"\x7fELF\x01\x01\x01"));
-        assert!(&rt; object[64..].starts_with(b"\xa8\x02\x00\x02\x62\xa3\x8c\x00"));
+        let code = b"\xa8\x02\x00\x02\x62\xa3\x8c\x00";
+        assert!(&rt;
+            is_assembled(alloc, SOURCE, words, name, 340, code)?,
+            "{words}"
+        );
     }
     Ok(())
 }
@@ -48,12 +92,10 @@ fn two_sources(rt: HostRuntime) -> Result<(), AllocError> {
         ),
     ];
     for (text, len, code) in rows {
-        let mut d = text_devices(alloc, text, &[])?;
-        assert_eq!(&rt; perform(alloc, &mut d, "as in.s new.o")?, 0);
-        assert!(&rt; d.out.bytes().is_empty() && d.err.bytes().is_empty());
-        let object = d.shelf.get(b"new.o").unwrap_or(&[]);
-        assert_eq!(&rt; object.len(), len);
-        assert!(&rt; object.get(64..).unwrap_or(&[]).starts_with(code));
+        assert!(&rt;
+            is_assembled(alloc, text, "as in.s new.o", "new.o", len, code)?,
+            "of {len} bytes"
+        );
     }
     Ok(())
 }
@@ -63,31 +105,29 @@ fn two_sources(rt: HostRuntime) -> Result<(), AllocError> {
 fn broken_texts(rt: HostRuntime) -> Result<(), AllocError> {
     let alloc = rt.alloc();
     let rows = [
-        (b"NOP\n".as_slice(), "A8 NoSection in.s 1"),
+        (b"NOP\n".as_slice(), "c6x: refused A8 NoSection in.s 1\n"),
         (
             b".sect \".text\"\nMVK .S1 40000,A4\n".as_slice(),
-            "A5 Range in.s 2",
+            "c6x: refused A5 Range in.s 2\n",
         ),
         (
             b".sect \".text\"\nMVK .S1 5,B4\n".as_slice(),
-            "A4 Operand in.s 2",
+            "c6x: refused A4 Operand in.s 2\n",
         ),
         (
             b".sect \".text\"\nMVK .S1 1,A4\n|| MVK .S1 2,A5\n".as_slice(),
-            "A6 Packet in.s 2",
+            "c6x: refused A6 Packet in.s 2\n",
         ),
         (
             b".sect \".text\"\nFOO .S1 1,A4\n\x80".as_slice(),
-            "A1 BadByte in.s 3",
+            "c6x: refused A1 BadByte in.s 3\n",
         ),
     ];
-    for (text, words) in rows {
-        let mut d = text_devices(alloc, text, &[])?;
-        assert_eq!(&rt; perform(alloc, &mut d, "as in.s new.o")?, 4);
-        let line = format!(in alloc; "c6x: refused {words}\n")?;
-        assert!(&rt; d.err.bytes() == line.as_bytes());
-        assert!(&rt; is_untouched(&d, text));
-        assert!(&rt; d.shelf.get(b"new.o").is_none());
+    for (text, line) in rows {
+        assert!(&rt;
+            stops(alloc, text, &[], "as in.s new.o", 4, line)?,
+            "{line}"
+        );
     }
     Ok(())
 }
@@ -97,9 +137,8 @@ fn broken_texts(rt: HostRuntime) -> Result<(), AllocError> {
 fn a_long_text(rt: HostRuntime) -> Result<(), AllocError> {
     let alloc = rt.alloc();
     let text = vec![in alloc; 0x80; 4_194_305]?;
-    let mut d = text_devices(alloc, &text, &[])?;
-    assert_eq!(&rt; perform(alloc, &mut d, "as in.s new.o")?, 4);
-    assert!(&rt; d.err.bytes() == b"c6x: refused E11 Large in.s 0\n".as_slice());
+    let line = "c6x: refused E11 Large in.s 0\n";
+    assert!(&rt; stops(alloc, &text, &[], "as in.s new.o", 4, line)?);
     Ok(())
 }
 
@@ -114,23 +153,21 @@ fn what_stops_assembling(rt: HostRuntime) -> Result<(), AllocError> {
         "as in.s new.o more",
         "as  new.o",
     ] {
-        let mut d = text_devices(alloc, SOURCE, &[])?;
-        assert_eq!(&rt; perform(alloc, &mut d, words)?, 2);
-        assert!(&rt; d.err.bytes() == b"c6x: usage\n".as_slice());
-        assert!(&rt; is_untouched(&d, SOURCE));
+        assert!(&rt;
+            stops(alloc, SOURCE, &[], words, 2, "c6x: usage\n")?,
+            "{words}"
+        );
     }
     let rows = [
-        ("as none.s new.o", [].as_slice(), 3, "missing none.s"),
-        ("as in.s new.o", [0].as_slice(), 5, "read fault in.s"),
-        ("as in.s new.o", [1].as_slice(), 6, "write fault"),
+        ("as none.s new.o", [].as_slice(), 3, "c6x: missing none.s\n"),
+        ("as in.s new.o", [0].as_slice(), 5, "c6x: read fault in.s\n"),
+        ("as in.s new.o", [1].as_slice(), 6, "c6x: write fault\n"),
     ];
-    for (words, failing, status, text) in rows {
-        let mut d = text_devices(alloc, SOURCE, failing)?;
-        assert_eq!(&rt; perform(alloc, &mut d, words)?, status);
-        let line = format!(in alloc; "c6x: {text}\n")?;
-        assert!(&rt; d.err.bytes() == line.as_bytes());
-        assert!(&rt; is_untouched(&d, SOURCE));
-        assert!(&rt; d.shelf.get(b"new.o").is_none());
+    for (words, failing, status, line) in rows {
+        assert!(&rt;
+            stops(alloc, SOURCE, failing, words, status, line)?,
+            "{words}"
+        );
     }
     Ok(())
 }

@@ -85,7 +85,7 @@ fn stored(alloc: Global, name: &[u8], bytes: &[u8]) -> Result<Stored, AllocError
 }
 
 /// The status of the command with these words, split at spaces.
-pub fn perform(alloc: Global, devices: &mut Devices, text: &str) -> Result<u8, AllocError> {
+fn perform(alloc: Global, devices: &mut Devices, text: &str) -> Result<u8, AllocError> {
     let mut words = Vec::new(alloc);
     for word in text.split(' ') {
         words.push(Name::from_bytes(alloc, word.as_bytes())?)?;
@@ -100,13 +100,32 @@ pub fn perform(alloc: Global, devices: &mut Devices, text: &str) -> Result<u8, A
     ))
 }
 
-/// The word at an address of the board, if it lies there.
-pub fn word_at(board: &Board, at: u32) -> Option<u32> {
-    let place = at.checked_sub(board.base())?;
-    let end = place.checked_add(4)?;
-    if end <= board.len() {
-        Some(board.read32(at))
-    } else {
-        None
+/// Whether the command with these words gives this status, and both outputs then have these texts.
+pub fn gives(
+    alloc: Global,
+    devices: &mut Devices,
+    words: &str,
+    status: u8,
+    out: &str,
+    err: &str,
+) -> Result<bool, AllocError> {
+    Ok(
+        perform(alloc, devices, words)? == status
+            && devices.out.bytes() == out.as_bytes()
+            && devices.err.bytes() == err.as_bytes(),
+    )
+}
+
+/// Whether the board has this word at this address.
+pub fn has_word(board: &Board, at: u32, word: u32) -> bool {
+    let len = board.len();
+    at >= board.base() && len >= 4 && at - board.base() <= len - 4 && board.read32(at) == word
+}
+
+/// Whether the shelf has a file of this name with these bytes.
+pub fn has_file(shelf: &MemoryShelf, name: &[u8], bytes: &[u8]) -> bool {
+    match shelf.get(name) {
+        Some(file) => file == bytes,
+        None => false,
     }
 }

@@ -26,6 +26,22 @@ pub fn m1(alloc: Global) -> Result<Vec<u8>, AllocError> {
     Ok(bytes)
 }
 
+/// The first 51 bytes of that executable, which is one less than a file header.
+pub fn front_of_m1(alloc: Global) -> Result<Vec<u8>, AllocError> {
+    let mut bytes = m1(alloc)?;
+    bytes.truncate(51);
+    Ok(bytes)
+}
+
+/// The bytes of that executable, but for one of its file header.
+pub fn damaged_m1(alloc: Global) -> Result<Vec<u8>, AllocError> {
+    let mut bytes = m1(alloc)?;
+    if bytes.len() > 5 {
+        bytes[5] = 2;
+    }
+    Ok(bytes)
+}
+
 /// The words of a file header of an executable whose three program headers follow it.
 const FILE_HEADER: [u32; 13] = [
     0x464c457f, 0x00010101, 0, 0, 0x008c0002, 1, 0x00010000, 52, 0, 0, 0x00200034, 3, 0,

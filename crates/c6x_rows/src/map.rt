@@ -1,51 +1,78 @@
-use crate::devices::{BASE, filled_devices, perform, word_at};
-use crate::images::{ONE_PLAN, m1};
-use std::alloc::AllocError;
+use crate::devices::{BASE, Devices, filled_devices, gives, has_word};
+use crate::images::{ONE_PLAN, damaged_m1, front_of_m1, m1};
+use std::alloc::{AllocError, Global};
 
 const MAP_TEXT: &str =
     "text app 0x80000000 116\ndata p app 0x80000078 4\nstack p 0x80000080 64\nslot p app 0 0x80000078\n";
+
+/// The devices with the plan of one process, its executable, and a board that fits to its last byte.
+fn one_devices(
+    alloc: Global,
+    failing_calls: &[u32],
+    failing_puts: &[u32],
+) -> Result<Devices, AllocError> {
+    let image = m1(alloc)?;
+    filled_devices(
+        alloc,
+        ONE_PLAN.as_bytes(),
+        &image,
+        failing_calls,
+        failing_puts,
+        192,
+    )
+}
 
 // The report, on a board that fits to its last byte, and the bytes that it leaves on one filled with 0xAA.
 #[test]
 fn one_process_is_mapped(rt: HostRuntime) -> Result<(), AllocError> {
     let alloc = rt.alloc();
-    let mut d = filled_devices(alloc, ONE_PLAN.as_bytes(), &m1(alloc)?, &[], &[], 192)?;
-    assert_eq!(&rt; perform(alloc, &mut d, "map one.plan")?, 0);
-    assert!(&rt; d.out.bytes() == MAP_TEXT.as_bytes());
-    assert!(&rt; d.err.bytes() == b"".as_slice());
-    for (offset, word) in [
-        (0, 0x020002A8),
-        (112, 0),
-        (116, 0xAAAA_AAAA),
-        (120, 0x8000_0078),
-        (128, 0),
-        (188, 0),
+    let mut d = one_devices(alloc, &[], &[])?;
+    assert!(&rt; gives(alloc, &mut d, "map one.plan", 0, MAP_TEXT, "")?);
+    for (at, word) in [
+        (0x8000_0000, 0x020002A8),
+        (0x8000_0070, 0),
+        (0x8000_0074, 0xAAAA_AAAA),
+        (0x8000_0078, 0x8000_0078),
+        (0x8000_0080, 0),
+        (0x8000_00BC, 0),
     ] {
-        assert_eq!(&rt; word_at(&d.board, BASE + offset), Some(word));
+        assert!(&rt; has_word(&d.board, at, word), "at {at}");
     }
     Ok(())
 }
 
-// A board of one byte less, and files that are no plain ones, are not built yet, and leave the board as it was.
+// A board of one byte less is not built yet, and stays as it was.
+#[test]
+fn a_board_of_one_byte_less(rt: HostRuntime) -> Result<(), AllocError> {
+    let alloc = rt.alloc();
+    let image = m1(alloc)?;
+    let mut d = filled_devices(alloc, ONE_PLAN.as_bytes(), &image, &[], &[], 191)?;
+    let line = "c6x: refused X1 NotBuilt one.plan 0\n";
+    assert!(&rt; gives(alloc, &mut d, "map one.plan", 4, "", line)?);
+    assert!(&rt; has_word(&d.board, BASE, 0xAAAA_AAAA));
+    Ok(())
+}
+
+/// Whether a command over the plan of one process and this executable stops with this status and this line.
+fn stops(
+    alloc: Global,
+    app: &[u8],
+    words: &str,
+    status: u8,
+    line: &str,
+) -> Result<bool, AllocError> {
+    let mut d = filled_devices(alloc, ONE_PLAN.as_bytes(), app, &[], &[], 192)?;
+    gives(alloc, &mut d, words, status, "", line)
+}
+
+// Files that are no plain ones are not built yet.
 #[test]
 fn what_is_not_built(rt: HostRuntime) -> Result<(), AllocError> {
     let alloc = rt.alloc();
-    let image = m1(alloc)?;
-    let mut short = filled_devices(alloc, ONE_PLAN.as_bytes(), &image, &[], &[], 191)?;
-    assert_eq!(&rt; perform(alloc, &mut short, "map one.plan")?, 4);
-    assert!(&rt; short.err.bytes() == b"c6x: refused X1 NotBuilt one.plan 0\n".as_slice());
-    assert!(&rt; short.out.bytes() == b"".as_slice());
-    assert_eq!(&rt; word_at(&short.board, BASE), Some(0xAAAA_AAAA));
-
-    let mut damaged = m1(alloc)?;
-    if damaged.len() > 5 {
-        damaged[5] = 2;
-    }
-    for app in [b"".as_slice(), &image[..51.min(image.len())], &damaged] {
-        let mut d = filled_devices(alloc, ONE_PLAN.as_bytes(), app, &[], &[], 192)?;
-        assert_eq!(&rt; perform(alloc, &mut d, "map one.plan")?, 4);
-        assert!(&rt; d.err.bytes() == b"c6x: refused X1 NotBuilt app.out 0\n".as_slice());
-    }
+    let line = "c6x: refused X1 NotBuilt app.out 0\n";
+    assert!(&rt; stops(alloc, b"", "map one.plan", 4, line)?);
+    assert!(&rt; stops(alloc, &front_of_m1(alloc)?, "map one.plan", 4, line)?);
+    assert!(&rt; stops(alloc, &damaged_m1(alloc)?, "map one.plan", 4, line)?);
     Ok(())
 }
 
@@ -54,33 +81,36 @@ fn what_is_not_built(rt: HostRuntime) -> Result<(), AllocError> {
 fn what_stops_at_once(rt: HostRuntime) -> Result<(), AllocError> {
     let alloc = rt.alloc();
     let image = m1(alloc)?;
-    for words in ["map", "map one.plan more", "mop one.plan", "map -v", "map "] {
-        let mut d = filled_devices(alloc, ONE_PLAN.as_bytes(), &image, &[], &[], 192)?;
-        assert_eq!(&rt; perform(alloc, &mut d, words)?, 2);
-        assert!(&rt; d.err.bytes() == b"c6x: usage\n".as_slice());
+    for (words, status, line) in [
+        ("map", 2, "c6x: usage\n"),
+        ("map one.plan more", 2, "c6x: usage\n"),
+        ("mop one.plan", 2, "c6x: usage\n"),
+        ("map -v", 2, "c6x: usage\n"),
+        ("map ", 2, "c6x: usage\n"),
+        ("map none.plan", 3, "c6x: missing none.plan\n"),
+    ] {
+        assert!(&rt; stops(alloc, &image, words, status, line)?, "{words}");
     }
-    let mut d = filled_devices(alloc, ONE_PLAN.as_bytes(), &image, &[], &[], 192)?;
-    assert_eq!(&rt; perform(alloc, &mut d, "map none.plan")?, 3);
-    assert!(&rt; d.err.bytes() == b"c6x: missing none.plan\n".as_slice());
     Ok(())
 }
 
-// A shelf whose second call fails stops the command, and an output that fails at its first put cuts it after the board
-// was written.
+// A shelf whose second call fails stops the command.
 #[test]
-fn failing_devices(rt: HostRuntime) -> Result<(), AllocError> {
+fn a_call_that_fails(rt: HostRuntime) -> Result<(), AllocError> {
     let alloc = rt.alloc();
-    let image = m1(alloc)?;
-    let mut unread = filled_devices(alloc, ONE_PLAN.as_bytes(), &image, &[1], &[], 192)?;
-    assert_eq!(&rt; perform(alloc, &mut unread, "map one.plan")?, 5);
-    assert!(&rt; unread.err.bytes() == b"c6x: read fault app.out\n".as_slice());
-    assert!(&rt; unread.out.bytes() == b"".as_slice());
-    assert_eq!(&rt; word_at(&unread.board, BASE + 120), Some(0xAAAA_AAAA));
+    let mut d = one_devices(alloc, &[1], &[])?;
+    let line = "c6x: read fault app.out\n";
+    assert!(&rt; gives(alloc, &mut d, "map one.plan", 5, "", line)?);
+    assert!(&rt; has_word(&d.board, 0x8000_0078, 0xAAAA_AAAA));
+    Ok(())
+}
 
-    let mut unwritten = filled_devices(alloc, ONE_PLAN.as_bytes(), &image, &[], &[0], 192)?;
-    assert_eq!(&rt; perform(alloc, &mut unwritten, "map one.plan")?, 6);
-    assert!(&rt; unwritten.err.bytes() == b"c6x: write fault\n".as_slice());
-    assert!(&rt; unwritten.out.bytes() == b"".as_slice());
-    assert_eq!(&rt; word_at(&unwritten.board, BASE + 120), Some(0x8000_0078));
+// An output that fails at its first put cuts the command after the board was written.
+#[test]
+fn a_put_that_fails(rt: HostRuntime) -> Result<(), AllocError> {
+    let alloc = rt.alloc();
+    let mut d = one_devices(alloc, &[], &[0])?;
+    assert!(&rt; gives(alloc, &mut d, "map one.plan", 6, "", "c6x: write fault\n")?);
+    assert!(&rt; has_word(&d.board, 0x8000_0078, 0x8000_0078));
     Ok(())
 }

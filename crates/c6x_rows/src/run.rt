@@ -1,4 +1,4 @@
-use crate::devices::{filled_devices, perform};
+use crate::devices::{filled_devices, gives};
 use crate::images::{image_of, m1};
 use std::alloc::{AllocError, Global};
 
@@ -15,6 +15,28 @@ fn the_known_executable(rt: HostRuntime) -> Result<(), AllocError> {
     let alloc = rt.alloc();
     assert!(&rt; image_of(alloc, &[0x020002a8, 0x008ca362])?.as_slice() == m1(alloc)?.as_slice());
     Ok(())
+}
+
+/// Whether a process with this code, limit and argument is run, and ends so.
+fn ends(
+    alloc: Global,
+    code: &[u32; 2],
+    limit: u32,
+    arg: u32,
+    end: &str,
+) -> Result<bool, AllocError> {
+    let plan = plan_text(alloc, limit, arg)?;
+    let image = image_of(alloc, code)?;
+    let mut d = filled_devices(alloc, plan.as_bytes(), &image, &[], &[], 192)?;
+    let text = report(alloc, end)?;
+    gives(alloc, &mut d, "run one.plan", 0, &text, "")
+}
+
+/// The report on a process of two instructions that ends so, with no output.
+fn report(alloc: Global, end: &str) -> Result<String, AllocError> {
+    format!(in alloc;
+        "text app 0x80000000 116\ndata p app 0x80000078 4\nstack p 0x80000080 64\nprocess p {end} output 0\n\n"
+    )
 }
 
 // How processes end: at the exit gate, at the limit, and at a fault.
@@ -40,21 +62,7 @@ fn one_process_is_run(rt: HostRuntime) -> Result<(), AllocError> {
         ),
     ];
     for (code, limit, arg, end) in rows {
-        let plan = plan_text(alloc, limit, arg)?;
-        let mut d = filled_devices(
-            alloc,
-            plan.as_bytes(),
-            &image_of(alloc, &code)?,
-            &[],
-            &[],
-            192,
-        )?;
-        assert_eq!(&rt; perform(alloc, &mut d, "run one.plan")?, 0);
-        let text = format!(in alloc;
-            "text app 0x80000000 116\ndata p app 0x80000078 4\nstack p 0x80000080 64\nprocess p {end} output 0\n\n"
-        )?;
-        assert!(&rt; d.out.bytes() == text.as_bytes());
-        assert!(&rt; d.err.bytes() == b"".as_slice());
+        assert!(&rt; ends(alloc, &code, limit, arg, end)?, "{end}");
     }
     Ok(())
 }
