@@ -34,7 +34,7 @@ fn bytes_that_start_no_token(rt: HostRuntime) -> Result<(), Fail> {
 
 #[test]
 fn instructions_of_another_form(rt: HostRuntime) -> Result<(), Fail> {
-    let rows: [(&[u8], u32); 11] = [
+    let rows: [(&[u8], u32); 17] = [
         (b"MVK .S1 5", 1),
         (b"MVK .S1 5,A4,A5", 1),
         (b"MVK .L1 5,A4", 1),
@@ -45,6 +45,12 @@ fn instructions_of_another_form(rt: HostRuntime) -> Result<(), Fail> {
         (b"[A3] MVK .S1 5,A4", 1),
         (b"[A1] NOP", 1),
         (b"[A1] CALLP .S1 x,A3", 1),
+        (b"LDW .D1T1 *+A4,A5", 1),
+        (b"LDW .D1T1 *A4[1],A5", 1),
+        (b"LDW .D2T1 *-B14(4),A5", 1),
+        (b"LDW .D2T1 *+B14(%dsbt_index(x)),A5", 1),
+        (b"|| NOP", 1),
+        (b".sect \".text\"\n.byte 1,2,3,4\n|| NOP", 3),
         (b"MVK .Q1 5", 1),
     ];
     assert_eq!(&rt; first_other(rt.alloc(), AsmRule::Syntax, &rows), None);
@@ -63,28 +69,6 @@ fn names_and_values_of_another_form(rt: HostRuntime) -> Result<(), Fail> {
         (b"A4:", 1),
         (b".word A4+1", 1),
         (b".word %abs32", 1),
-    ];
-    assert_eq!(&rt; first_other(rt.alloc(), AsmRule::Syntax, &rows), None);
-    Ok(())
-}
-
-#[test]
-fn memory_operands_of_another_form(rt: HostRuntime) -> Result<(), Fail> {
-    let rows: [(&[u8], u32); 4] = [
-        (b"LDW .D1T1 *+A4,A5", 1),
-        (b"LDW .D1T1 *A4[1],A5", 1),
-        (b"LDW .D2T1 *-B14(4),A5", 1),
-        (b"LDW .D2T1 *+B14(%dsbt_index(x)),A5", 1),
-    ];
-    assert_eq!(&rt; first_other(rt.alloc(), AsmRule::Syntax, &rows), None);
-    Ok(())
-}
-
-#[test]
-fn bars_with_no_instruction_before_them(rt: HostRuntime) -> Result<(), Fail> {
-    let rows: [(&[u8], u32); 2] = [
-        (b"|| NOP", 1),
-        (b".sect \".text\"\n.byte 1,2,3,4\n|| NOP", 3),
     ];
     assert_eq!(&rt; first_other(rt.alloc(), AsmRule::Syntax, &rows), None);
     Ok(())
@@ -124,20 +108,15 @@ fn units_and_registers_out_of_place(rt: HostRuntime) -> Result<(), Fail> {
 }
 
 #[test]
-fn operands_of_directives(rt: HostRuntime) -> Result<(), Fail> {
-    let rows: [(&[u8], u32); 4] = [
-        (b".sect foo", 1),
-        (b".global a+4", 1),
-        (b".sect \".text\"\n.word A4", 2),
-        (b".sect \".text\"\n.half x", 2),
-    ];
-    assert_eq!(&rt; first_other(rt.alloc(), AsmRule::Operand, &rows), None);
-    Ok(())
-}
-
-#[test]
-fn constants_out_of_place(rt: HostRuntime) -> Result<(), Fail> {
-    let rows: [(&[u8], u32); 2] = [
+fn operands_of_instructions_out_of_place(rt: HostRuntime) -> Result<(), Fail> {
+    let rows: [(&[u8], u32); 9] = [
+        (b".sect \".text\"\nLDW .D1T1 *+A4(0),A5", 2),
+        (b".sect \".text\"\nLDW .D1T1 *+foo[1],A5", 2),
+        (b".sect \".text\"\nLDW .D1T1 *+A4[B5],A5", 2),
+        (b".sect \".text\"\nMVK .S1 %pcr_s7(x),A4", 2),
+        (b".sect \".text\"\nMVK .S1 %abs_l16(5),A4", 2),
+        (b".sect \".text\"\nLDW .D1T1 *+A4[%dsbt_index],A5", 2),
+        (b".sect \".text\"\nADDK .S1 x,A4", 2),
         (b".sect \".text\"\nADD .L1 A1,5,A2", 2),
         (b".sect \".text\"\nCMPGTU .L1 5,A1,A2", 2),
     ];
@@ -146,24 +125,13 @@ fn constants_out_of_place(rt: HostRuntime) -> Result<(), Fail> {
 }
 
 #[test]
-fn memory_operands_out_of_place(rt: HostRuntime) -> Result<(), Fail> {
-    let rows: [(&[u8], u32); 4] = [
-        (b".sect \".text\"\nLDW .D1T1 *+A4(0),A5", 2),
-        (b".sect \".text\"\nLDW .D1T1 *+foo[1],A5", 2),
-        (b".sect \".text\"\nLDW .D1T1 *+A4[B5],A5", 2),
-        (b".sect \".text\"\nLDW .D1T1 *+A4[%dsbt_index],A5", 2),
-    ];
-    assert_eq!(&rt; first_other(rt.alloc(), AsmRule::Operand, &rows), None);
-    Ok(())
-}
-
-#[test]
-fn symbols_and_kinds_out_of_place(rt: HostRuntime) -> Result<(), Fail> {
-    let rows: [(&[u8], u32); 4] = [
-        (b".sect \".text\"\nMVK .S1 %pcr_s7(x),A4", 2),
+fn operands_of_directives_out_of_place(rt: HostRuntime) -> Result<(), Fail> {
+    let rows: [(&[u8], u32); 5] = [
+        (b".sect foo", 1),
+        (b".global a+4", 1),
+        (b".sect \".text\"\n.word A4", 2),
+        (b".sect \".text\"\n.half x", 2),
         (b".sect \".text\"\n.word %none(x)", 2),
-        (b".sect \".text\"\nMVK .S1 %abs_l16(5),A4", 2),
-        (b".sect \".text\"\nADDK .S1 x,A4", 2),
     ];
     assert_eq!(&rt; first_other(rt.alloc(), AsmRule::Operand, &rows), None);
     Ok(())
@@ -181,8 +149,8 @@ fn lines_in_a_section_of_another_kind(rt: HostRuntime) -> Result<(), Fail> {
 }
 
 #[test]
-fn constants_out_of_their_range(rt: HostRuntime) -> Result<(), Fail> {
-    let rows: [(&[u8], u32); 10] = [
+fn numbers_in_instructions_out_of_range(rt: HostRuntime) -> Result<(), Fail> {
+    let rows: [(&[u8], u32); 15] = [
         (b".sect \".text\"\nMVK .S1 32768,A4", 2),
         (b".sect \".text\"\nMVK .S1 -32769,A4", 2),
         (b".sect \".text\"\nMVKH .S1 65536,A4", 2),
@@ -192,6 +160,11 @@ fn constants_out_of_their_range(rt: HostRuntime) -> Result<(), Fail> {
         (b".sect \".text\"\nNOP 10", 2),
         (b".sect \".text\"\nNOP 0", 2),
         (b".sect \".text\"\nBNOP .S2 B3,8", 2),
+        (b".sect \".text\"\nLDW .D2T1 *+B14(2),A5", 2),
+        (b".sect \".text\"\nLDW .D2T1 *+B14(131072),A5", 2),
+        (b".sect \".text\"\nLDW .D1T1 *+A4[32],A5", 2),
+        (b".sect \".text\"\nMVK .S1 x+2147483648,A4", 2),
+        (b".sect \".text\"\nMVK .S1 x-2147483649,A4", 2),
         (b"MVK .S1 40000,A4", 1),
     ];
     assert_eq!(&rt; first_other(rt.alloc(), AsmRule::Range, &rows), None);
@@ -199,20 +172,7 @@ fn constants_out_of_their_range(rt: HostRuntime) -> Result<(), Fail> {
 }
 
 #[test]
-fn offsets_out_of_their_range(rt: HostRuntime) -> Result<(), Fail> {
-    let rows: [(&[u8], u32); 5] = [
-        (b".sect \".text\"\nLDW .D2T1 *+B14(2),A5", 2),
-        (b".sect \".text\"\nLDW .D2T1 *+B14(131072),A5", 2),
-        (b".sect \".text\"\nLDW .D1T1 *+A4[32],A5", 2),
-        (b".sect \".text\"\nMVK .S1 x+2147483648,A4", 2),
-        (b".sect \".text\"\nMVK .S1 x-2147483649,A4", 2),
-    ];
-    assert_eq!(&rt; first_other(rt.alloc(), AsmRule::Range, &rows), None);
-    Ok(())
-}
-
-#[test]
-fn data_out_of_its_range(rt: HostRuntime) -> Result<(), Fail> {
+fn numbers_in_directives_out_of_range(rt: HostRuntime) -> Result<(), Fail> {
     let rows: [(&[u8], u32); 5] = [
         (b".sect \".text\"\n.word 4294967296", 2),
         (b".sect \".text\"\n.byte 256", 2),
