@@ -1,6 +1,7 @@
+pub mod Folds
 pub mod Lengths
-pub mod Shapes
-pub mod Totals
+pub mod Stretches
+pub mod Summaries
+pub mod Sections
 pub mod Limits
-pub mod Spreads
-pub mod Changes
+pub mod Blocks

@@ -1,23 +1,30 @@
--- The numbers of an object's sections tell whether it passes a limit.
-use Rattle.std.proofs.Common.{◌≡◌, ℕ, suc, ◌+◌, ◌*◌, ◌==◌, nat_lt, Bool, true, false, ◌||◌, cond, List, [], ◌∷◌, ◌++◌, Option, Some, None, codes, length, length-append, refl, sym, ap, ◌∙◌, true≢false, arith}
-use Rattle.std.specs.Option.{option_and_then}
+-- The sums over the sections of a text tell whether its object passes a limit.
+use Rattle.std.proofs.Common.{◌≡◌, ℕ, suc, ◌+◌, ◌*◌, ◌==◌, ◌≤◌, ◌<◌, nat_lt, Bool, true, false, ◌||◌, cond, List, [], ◌∷◌, ◌++◌, map, length, length-append, codes, count_by, inl, inr, refl, sym, ap, ◌∙◌, arith}
+use Rattle.std.specs.Prelude.{sum_by}
 use Rattle.std.specs.List.{list_any}
+use Rattle.std.proofs.lemmas.Bool.{cases_lt}
 use Rattle.std.proofs.lemmas.Bool.Decides.{nat_tests}
+use Rattle.std.proofs.lemmas.List.{length-map}
 use Rattle.std.proofs.lemmas.List.Folds.{list_any-append}
 use Rattle.c6x_base.specs.Rounded.{rounded}
 use Rattle.c6x_elf.specs.Parts.{has_bytes}
 use Rattle.c6x_elf.specs.Writing.{offset_end, offsets_end, written_size}
 use Rattle.c6x_asm_object.specs.declared.part.Part.{Part}
 use Rattle.c6x_asm_object.specs.declared.symbol.Symbol.{Symbol}
-use Rattle.c6x_asm_form.specs.Filing.{Named, file_of, named_sections, named_shstrtab, names_of, sections_from, sections_of}
+use Rattle.c6x_asm_object.specs.Symbols.{names_total}
+use Rattle.c6x_asm_form.specs.Bindings.{is_local}
+use Rattle.c6x_asm_form.specs.Filing.{Named, file_of, named_part, named_relas, named_sections, named_shstrtab, named_strtab, named_symtab, names_of, sections_from, sections_of, symtab_of}
 use Rattle.c6x_asm_form.specs.Headers.{null_section, table_section}
 use Rattle.c6x_asm_form.specs.Limits.{is_large, is_long, passes_limit}
-use Rattle.c6x_asm_limits.specs.declared.tally.Tally.{Tally}
-use Rattle.c6x_asm_object.specs.Symbols.{names_total}
-use Rattle.c6x_asm_limits.specs.Rows.{added, is_full, is_past, row_end, table_row, tally_with, unless_full}
-use Rattle.c6x_asm_limits.specs.Walk.{first_tally, is_over, relas_added, parts_added, shstrtab_added, tables_added, tally_of}
-use Rattle.c6x_asm_limits.proofs.Shapes.{all_added, all_added-append, both_added, most_all, row_of, row_table, some_same, stored_strtab, then_all}
-use Rattle.c6x_asm_limits.proofs.Totals.{all_added_is, any_long, count-tally_all, names-tally_all, past_more, rounded_above, row_long, tally_all}
+use Rattle.c6x_asm_form.specs.Symbols.{name_table, symbol_numbers, symbol_table}
+use Rattle.c6x_asm_form.proofs.Lengths.{length-symbol_table}
+use Rattle.c6x_asm_limits.specs.declared.summary.Summary.{Summary}
+use Rattle.c6x_asm_limits.specs.Places.{parts_end}
+use Rattle.c6x_asm_limits.specs.Passing.{has_long, name_bytes, passes, section_count, symbol_bytes, whole_size}
+use Rattle.c6x_asm_limits.specs.Sums.{clipped, is_heavy, is_past, part_names, part_rows, part_tables}
+use Rattle.c6x_asm_limits.proofs.Lengths.{length-name_table}
+use Rattle.c6x_asm_limits.proofs.Sections.{any_long, end_table, ends_all, ends_all-append, ends_parts, ends_relas, length_relas, long_heavy, long_table, names_of-append, names_parts}
+use Rattle.c6x_asm_limits.proofs.Summaries.{Tells}
 
 -- the sections of the file
 length-sections_from : (at : ℕ) (named : List Named) → length (sections_from at named) ≡ length named
@@ -29,146 +36,234 @@ unfolding is_long
 long-sections_from at [] = refl
 long-sections_from at (n ∷ named) = ap (λ b. is_long n.section || b) (long-sections_from (at + (length n.name + 1)) named)
 
-end-sections_from : (t : Tally) (at : ℕ) (named : List Named) → offsets_end t.at (sections_from at named) ≡ (tally_all t named).at
-unfolding offset_end row_end row_of tally_with
-end-sections_from t at [] = refl
-end-sections_from t at (n ∷ named) = end-sections_from (tally_with t (row_of n)) (at + (length n.name + 1)) named
+end-sections_from : (from at : ℕ) (named : List Named) → offsets_end from (sections_from at named) ≡ ends_all from named
+unfolding offset_end
+end-sections_from from at [] = refl
+end-sections_from from at (n ∷ named) = end-sections_from (offset_end from n.section) (at + (length n.name + 1)) named
 
 -- with the null section
-count_null : (named : List Named) → suc (length (sections_from 1 named)) ≡ (tally_all first_tally named).count
-unfolding first_tally
-count_null named = omega (arith, length-sections_from 1 named, count-tally_all first_tally named)
-
 long_null : (named : List Named) → list_any is_long (null_section ∷ sections_from 1 named) ≡ any_long named
 unfolding is_long null_section table_section
 long_null named = long-sections_from 1 named
 
-end_null : (named : List Named) → offsets_end 52 (null_section ∷ sections_from 1 named) ≡ (tally_all first_tally named).at
-unfolding offset_end null_section table_section has_bytes first_tally
-end_null named = end-sections_from first_tally 1 named
-
-size_if : (none : Bool) (end at n count : ℕ) → none ≡ false → n ≡ count → end ≡ at → cond none end (rounded end 4 + 40 * n) ≡ rounded at 4 + 40 * count
-size_if none end at n count is counted ends = rw (is, counted, ends) refl
+end_null : (named : List Named) → offsets_end 52 (null_section ∷ sections_from 1 named) ≡ ends_all 52 named
+unfolding offset_end null_section table_section has_bytes
+end_null named = end-sections_from 52 1 named
 
 some_not_none : (n : ℕ) → (suc n == 0) ≡ false
 some_not_none n = grind (arith, nat_tests)
 
-past_all : (a b c d : ℕ) (long other : Bool) → a ≡ b → long ≡ other → c ≡ d → (nat_lt 4096 a || (long || nat_lt 4194304 c)) ≡ (nat_lt 4096 b || (other || nat_lt 4194304 d))
-past_all a b c d long other first second third = rw (first, second, third) refl
-
 -- whether numbers pass a limit
-abbrev pub tally_past : Tally → Bool → Bool
-tally_past t long = nat_lt 4096 t.count || (long || nat_lt 4194304 (rounded t.at 4 + 40 * t.count))
+abbrev pasts : ℕ → Bool → ℕ → Bool
+pasts count long end = nat_lt 4096 count || (long || nat_lt 4194304 (rounded end 4 + 40 * count))
+
+past_all : (none : Bool) (n count end at : ℕ) (long other : Bool) → none ≡ false → n ≡ count → long ≡ other → end ≡ at → (nat_lt 4096 n || (long || nat_lt 4194304 (cond none end (rounded end 4 + 40 * n)))) ≡ pasts count other at
+past_all none n count end at long other is counted same ends = rw (is, counted, same, ends) refl
 
 -- the sections with their names
-abbrev pub all_named : List ℕ → List Part → List Symbol → List Named
+abbrev all_named : List ℕ → List Part → List Symbol → List Named
 all_named text parts symbols = named_sections text parts symbols ++ (named_shstrtab (named_sections text parts symbols) ∷ [])
 
-large_past : (text : List ℕ) (parts : List Part) (symbols : List Symbol) → is_large text parts symbols ≡ tally_past (tally_all first_tally (all_named text parts symbols)) (any_long (all_named text parts symbols))
+large_past : (text : List ℕ) (parts : List Part) (symbols : List Symbol) → is_large text parts symbols ≡ pasts (suc (length (all_named text parts symbols))) (any_long (all_named text parts symbols)) (ends_all 52 (all_named text parts symbols))
 unfolding is_large passes_limit file_of sections_of written_size
 large_past text parts symbols =
     let named = all_named text parts symbols in
-    let t = tally_all first_tally named in
-    let n = length (sections_from 1 named) in
-    let end = offsets_end 52 (null_section ∷ sections_from 1 named) in
-    past_all (suc n) t.count (cond (suc n == 0) end (rounded end 4 + 40 * suc n)) (rounded t.at 4 + 40 * t.count)
-    (list_any is_long (null_section ∷ sections_from 1 named)) (any_long named)
-    (count_null named) (long_null named)
-    (size_if (suc n == 0) end t.at (suc n) t.count (some_not_none n) (count_null named) (end_null named))
+    let sections = sections_from 1 named in
+    past_all (suc (length sections) == 0) (suc (length sections)) (suc (length named)) (offsets_end 52 (null_section ∷ sections)) (ends_all 52 named)
+    (list_any is_long (null_section ∷ sections)) (any_long named)
+    (some_not_none (length sections)) (ap suc (length-sections_from 1 named)) (long_null named) (end_null named)
+
+-- the tables
+abbrev relas : List ℕ → List Part → List Symbol → List Named
+relas text parts symbols = named_relas text (symbol_numbers (length parts) symbols) (symtab_of parts) 1 parts
+
+abbrev tables : List ℕ → List Part → List Symbol → List Named
+tables text parts symbols = named_symtab text parts symbols ∷ named_strtab text symbols ∷ []
+
+stored_symtab : has_bytes 2 ≡ true
+unfolding has_bytes
+stored_symtab = refl
+
+stored_strtab : has_bytes 3 ≡ true
+unfolding has_bytes
+stored_strtab = refl
+
+end_symtab : (text : List ℕ) (parts : List Part) (symbols : List Symbol) (at : ℕ) → offset_end at (named_symtab text parts symbols).section ≡ rounded at 4 + symbol_bytes (length parts) (length symbols)
+unfolding named_symtab
+end_symtab text parts symbols at =
+    end_table at 2 (symtab_of parts + 1) (1 + length parts + count_by is_local symbols) 4 16 (symbol_table text (length parts) symbols) stored_symtab
+    ∙ ap (λ n. rounded at 4 + n) (length-symbol_table text (length parts) symbols)
+
+end_strtab : (text : List ℕ) (symbols : List Symbol) (at : ℕ) → offset_end at (named_strtab text symbols).section ≡ rounded at 1 + (1 + names_total text symbols)
+unfolding named_strtab
+end_strtab text symbols at =
+    end_table at 3 0 0 1 0 (name_table text symbols) stored_strtab ∙ ap (λ n. rounded at 1 + n) (length-name_table text symbols)
+
+long_symtab : (text : List ℕ) (parts : List Part) (symbols : List Symbol) → is_long (named_symtab text parts symbols).section ≡ is_past (symbol_bytes (length parts) (length symbols))
+unfolding named_symtab
+long_symtab text parts symbols =
+    long_table 2 (symtab_of parts + 1) (1 + length parts + count_by is_local symbols) 4 16 (symbol_table text (length parts) symbols)
+    ∙ ap is_past (length-symbol_table text (length parts) symbols)
+
+long_strtab : (text : List ℕ) (symbols : List Symbol) → is_long (named_strtab text symbols).section ≡ is_past (1 + names_total text symbols)
+unfolding named_strtab
+long_strtab text symbols = long_table 3 0 0 1 0 (name_table text symbols) ∙ ap is_past (length-name_table text symbols)
 
 -- the names of the sections
-names_of-append : (a b : List Named) → length (names_of (a ++ b)) ≡ length (names_of a) + length (names_of b)
-names_of-append [] b = omega arith
-names_of-append (n ∷ a) b =
-    omega (arith, length-append n.name (0 ∷ names_of (a ++ b)), length-append n.name (0 ∷ names_of a), names_of-append a b)
+abbrev name_list : List Named → List ℕ
+name_list named = 0 ∷ (names_of named ++ (codes ".shstrtab" ++ (0 ∷ [])))
 
-row_shstrtab : (named : List Named) → row_of (named_shstrtab named) ≡ table_row 9 1 ((tally_all first_tally named).names + 10)
-unfolding named_shstrtab first_tally
-row_shstrtab named =
-    let bytes = 0 ∷ (names_of named ++ (codes ".shstrtab" ++ (0 ∷ []))) in
-    let size : length bytes ≡ (tally_all first_tally named).names + 10 =
-    omega (arith, length-append (names_of named) (codes ".shstrtab" ++ (0 ∷ [])), names-tally_all first_tally named) in
-    row_table (codes ".shstrtab") 3 0 0 1 0 bytes ((tally_all first_tally named).names + 10) stored_strtab size
-
--- where the names pass the limit of a section, `.shstrtab` does
-long_shstrtab : (named : List Named) → is_long (named_shstrtab named).section ≡ is_past ((tally_all first_tally named).names + 10)
-unfolding table_row
-long_shstrtab named = sym (row_long (named_shstrtab named)) ∙ ap (λ row. row.long) (row_shstrtab named)
-
-or_true : (a b : Bool) → b ≡ true → (a || b) ≡ true
-or_true true b is = refl
-or_true false b is = is
-
-names_all : (named : List Named) → (tally_all first_tally (named ++ (named_shstrtab named ∷ []))).names ≡ (tally_all first_tally named).names + 10
-unfolding named_shstrtab first_tally
-names_all named =
+names_named : (text : List ℕ) (parts : List Part) (symbols : List Symbol) → length (name_list (named_sections text parts symbols)) ≡ name_bytes (sum_by (part_names text) parts)
+unfolding named_sections named_symtab named_strtab
+names_named text parts symbols =
+    let mapped = map (named_part text) parts in
+    let both = relas text parts symbols ++ tables text parts symbols in
     omega (
       arith,
-      names-tally_all first_tally (named ++ (named_shstrtab named ∷ [])),
-      names-tally_all first_tally named,
-      names_of-append named (named_shstrtab named ∷ []),
+      length-append (names_of (mapped ++ both)) (codes ".shstrtab" ++ (0 ∷ [])),
+      names_of-append mapped both,
+      names_of-append (relas text parts symbols) (tables text parts symbols),
+      names_parts text (symbol_numbers (length parts) symbols) (symtab_of parts) 1 parts,
     )
 
-or_first : (a b : Bool) → a ≡ true → (a || b) ≡ true
-or_first a b is = rw is refl
+end_shstrtab : (named : List Named) (at size : ℕ) → length (name_list named) ≡ size → offset_end at (named_shstrtab named).section ≡ rounded at 1 + size
+unfolding named_shstrtab
+end_shstrtab named at size is = end_table at 3 0 0 1 0 (name_list named) stored_strtab ∙ ap (λ n. rounded at 1 + n) is
 
-names_long : (named : List Named) → is_past (tally_all first_tally (named ++ (named_shstrtab named ∷ []))).names ≡ true → any_long (named ++ (named_shstrtab named ∷ [])) ≡ true
-names_long named past =
-    let last = is_long (named_shstrtab named).section in
+long_shstrtab : (named : List Named) (size : ℕ) → length (name_list named) ≡ size → is_long (named_shstrtab named).section ≡ is_past size
+unfolding named_shstrtab
+long_shstrtab named size is = long_table 3 0 0 1 0 (name_list named) ∙ ap is_past is
+
+-- all of them
+count_all : (text : List ℕ) (parts : List Part) (symbols : List Symbol) → suc (length (all_named text parts symbols)) ≡ section_count (length parts) (sum_by part_tables parts)
+unfolding named_sections
+count_all text parts symbols =
+    let mapped = map (named_part text) parts in
+    let both = relas text parts symbols ++ tables text parts symbols in
+    omega (
+      arith,
+      length-append (mapped ++ both) (named_shstrtab (mapped ++ both) ∷ []),
+      length-append mapped both,
+      length-append (relas text parts symbols) (tables text parts symbols),
+      length-map parts (named_part text),
+      length_relas text (symbol_numbers (length parts) symbols) (symtab_of parts) 1 parts,
+    )
+
+any_five : (a b heavy c d e s t u : Bool) → (a || b) ≡ heavy → c ≡ s → d ≡ t → e ≡ u → ((a || (b || (c || (d || false)))) || (e || false)) ≡ (heavy || (s || (t || u)))
+any_five a b heavy c d e s t u one two three four = sym (rw (sym one, sym two, sym three, sym four) (flat a b c d e))
+  where
+    flat : (a b c d e : Bool) → ((a || b) || (c || (d || e))) ≡ ((a || (b || (c || (d || false)))) || (e || false))
+    flat true b c d e = refl
+    flat false true c d e = refl
+    flat false false true d e = refl
+    flat false false false true e = refl
+    flat false false false false true = refl
+    flat false false false false false = refl
+
+split_sections : (text : List ℕ) (parts : List Part) (symbols : List Symbol) → any_long (named_sections text parts symbols) ≡ (any_long (map (named_part text) parts) || (any_long (relas text parts symbols) || any_long (tables text parts symbols)))
+unfolding named_sections
+split_sections text parts symbols =
+    list_any-append (λ n. is_long n.section) (map (named_part text) parts) (relas text parts symbols ++ tables text parts symbols)
+    ∙ ap (λ b. any_long (map (named_part text) parts) || b) (list_any-append (λ n. is_long n.section) (relas text parts symbols) (tables text parts symbols))
+
+long_all : (text : List ℕ) (parts : List Part) (symbols : List Symbol) → any_long (all_named text parts symbols) ≡ (list_any is_heavy parts || (is_past (symbol_bytes (length parts) (length symbols)) || (is_past (1 + names_total text symbols) || is_past (name_bytes (sum_by (part_names text) parts)))))
+long_all text parts symbols =
+    let named = named_sections text parts symbols in
     list_any-append (λ n. is_long n.section) named (named_shstrtab named ∷ [])
-    ∙ or_true (any_long named) (last || false) (or_first last false (long_shstrtab named ∙ ap is_past (sym (names_all named)) ∙ past))
+    ∙ (ap (λ b. b || any_long (named_shstrtab named ∷ [])) (split_sections text parts symbols)
+    ∙ any_five (any_long (map (named_part text) parts)) (any_long (relas text parts symbols)) (list_any is_heavy parts)
+    (is_long (named_symtab text parts symbols).section) (is_long (named_strtab text symbols).section) (is_long (named_shstrtab named).section)
+    (is_past (symbol_bytes (length parts) (length symbols))) (is_past (1 + names_total text symbols)) (is_past (name_bytes (sum_by (part_names text) parts)))
+    (long_heavy text (symbol_numbers (length parts) symbols) (symtab_of parts) 1 parts) (long_symtab text parts symbols) (long_strtab text symbols)
+    (long_shstrtab named (name_bytes (sum_by (part_names text) parts)) (names_named text parts symbols)))
 
--- the walk over all sections ends there
-last_is : (long full : Bool) (u : Tally) (f g : Tally → Option Tally) (o : Option Tally) → f u ≡ g u → o ≡ cond long None (cond full None (Some u)) → option_and_then f o ≡ option_and_then g o
-last_is true full u f g o same is = rw is refl
-last_is false true u f g o same is = rw is refl
-last_is false false u f g o same is = rw is same
+-- the place behind all
+abbrev last_end : ℕ → ℕ → ℕ → ℕ → ℕ → ℕ
+last_end at rows symbols names section_names = rounded at 4 + rows + symbols + (1 + names) + section_names
 
-first_free : is_full first_tally ≡ false
-unfolding is_full is_past first_tally
-first_free = refl
+end_chain : (a b c d e rows symbols names section_names : ℕ) → rounded b 4 ≡ rounded a 4 + rows → c ≡ rounded b 4 + symbols → d ≡ rounded c 1 + (1 + names) → e ≡ rounded d 1 + section_names → e ≡ last_end a rows symbols names section_names
+end_chain a b c d e rows symbols names section_names one two three four = omega (arith, one, two, three, four)
 
-last_all : (named : List Named) → all_added first_tally (named ++ (named_shstrtab named ∷ [])) ≡ option_and_then shstrtab_added (all_added first_tally named)
-unfolding shstrtab_added
-last_all named =
-    let u = tally_all first_tally named in
-    all_added-append first_tally named (named_shstrtab named ∷ [])
-    ∙ last_is (any_long named) (is_full u) u (λ v. all_added v (named_shstrtab named ∷ [])) shstrtab_added (all_added first_tally named)
-    (some_same (added u (row_of (named_shstrtab named))) ∙ ap (added u) (row_shstrtab named))
-    (all_added_is first_tally named first_free)
+ends_sections : (text : List ℕ) (parts : List Part) (symbols : List Symbol) → ends_all 52 (named_sections text parts symbols) ≡ ends_all (ends_all (parts_end 52 parts) (relas text parts symbols)) (tables text parts symbols)
+unfolding named_sections
+ends_sections text parts symbols =
+    ends_all-append 52 (map (named_part text) parts) (relas text parts symbols ++ tables text parts symbols)
+    ∙ (ap (λ at. ends_all at (relas text parts symbols ++ tables text parts symbols)) (ends_parts text 52 parts)
+    ∙ ends_all-append (parts_end 52 parts) (relas text parts symbols) (tables text parts symbols))
 
-tally_is : (text : List ℕ) (parts : List Part) (symbols : List Symbol) → all_added first_tally (all_named text parts symbols) ≡ tally_of text parts (length symbols) (names_total text symbols)
-unfolding tally_of tables_added
-tally_is text parts symbols =
-    last_all (named_sections text parts symbols)
-    ∙ ap (option_and_then shstrtab_added) (most_all text parts symbols first_tally)
-    ∙ sym (then_all (λ u. tables_added u (length parts) (length symbols) (names_total text symbols)) (λ u. both_added u (length parts) (length symbols) (names_total text symbols)) shstrtab_added (λ u. refl)
-    (option_and_then (λ u. relas_added text u parts) (parts_added text first_tally parts)))
+end_all : (text : List ℕ) (parts : List Part) (symbols : List Symbol) → ends_all 52 (all_named text parts symbols) ≡ last_end (parts_end 52 parts) (sum_by part_rows parts) (symbol_bytes (length parts) (length symbols)) (names_total text symbols) (name_bytes (sum_by (part_names text) parts))
+end_all text parts symbols =
+    let named = named_sections text parts symbols in
+    let size = name_bytes (sum_by (part_names text) parts) in
+    let behind = ends_all (parts_end 52 parts) (relas text parts symbols) in
+    let third = offset_end behind (named_symtab text parts symbols).section in
+    let fourth = offset_end third (named_strtab text symbols).section in
+    ends_all-append 52 named (named_shstrtab named ∷ [])
+    ∙ (ap (λ at. offset_end at (named_shstrtab named).section) (ends_sections text parts symbols)
+    ∙ end_chain (parts_end 52 parts) behind third fourth (offset_end fourth (named_shstrtab named).section)
+    (sum_by part_rows parts) (symbol_bytes (length parts) (length symbols)) (names_total text symbols) size
+    (ends_relas text (symbol_numbers (length parts) symbols) (symtab_of parts) 1 (parts_end 52 parts) parts)
+    (end_symtab text parts symbols behind) (end_strtab text symbols third) (end_shstrtab named fourth size (names_named text parts symbols)))
 
--- what ends the walk passes a limit
-over_if : (full : Bool) (t : Tally) → is_over (cond full None (Some t)) ≡ cond full true (nat_lt 4194304 (rounded t.at 4 + 40 * t.count))
-unfolding is_over
-over_if true t = refl
-over_if false t = refl
+-- numbers that are far past each limit may be clipped
+same_test : (limit m n : ℕ) → (limit < m → limit < n) → (limit < n → limit < m) → nat_lt limit m ≡ nat_lt limit n
+same_test limit m n up down = elim (cases_lt limit m) [
+  | inl past ↦ test_true limit m past ∙ sym (test_true limit n (up past))
+  | inr within ↦ test_false limit m within ∙ sym (elim (cases_lt limit n) [
+    | inl past ↦ absurd (omega (arith, within, down past))
+    | inr less ↦ test_false limit n less
+  ])
+]
+  where
+    test_true : (a b : ℕ) → a < b → nat_lt a b ≡ true
+    test_true a b less = grind (arith, nat_tests)
 
-over_bits : (a b c d : Bool) → (a ≡ true → d ≡ true) → (b ≡ true → false ≡ true) → cond (a || (b || c)) true d ≡ (c || d)
-over_bits true b c d first second = sym (or_true c d (first refl))
-over_bits false true c d first second = absurd (true≢false (sym (second refl)))
-over_bits false false true d first second = refl
-over_bits false false false d first second = refl
+    test_false : (a b : ℕ) → b ≤ a → nat_lt a b ≡ false
+    test_false a b less = grind (arith, nat_tests)
 
-over_is : (long : Bool) (t : Tally) → (is_past t.names ≡ true → long ≡ true) → is_over (cond long None (unless_full t)) ≡ tally_past t long
-unfolding is_over is_full
-over_is true t names = sym (or_true (nat_lt 4096 t.count) (true || nat_lt 4194304 (rounded t.at 4 + 40 * t.count)) refl)
-over_is false t names =
-    let size = rounded t.at 4 + 40 * t.count in
-    over_if (is_full t) t
-    ∙ over_bits (nat_lt 4194304 t.at) (is_past t.names) (nat_lt 4096 t.count) (nat_lt 4194304 size)
-    (past_more 4194304 t.at size (omega (arith, rounded_above t.at 4 (omega arith)))) names
+clipped_count : (n t : ℕ) → nat_lt 4096 (section_count n (clipped t)) ≡ nat_lt 4096 (section_count n t)
+clipped_count n t = same_test 4096 (section_count n (clipped t)) (section_count n t) (λ past. omega (arith, past)) (λ past. omega (arith, past))
 
-pub large_is : (text : List ℕ) (parts : List Part) (symbols : List Symbol) → is_over (tally_of text parts (length symbols) (names_total text symbols)) ≡ is_large text parts symbols
-large_is text parts symbols =
-    let named = all_named text parts symbols in
-    ap is_over (sym (tally_is text parts symbols) ∙ all_added_is first_tally named first_free)
-    ∙ over_is (any_long named) (tally_all first_tally named) (names_long (named_sections text parts symbols))
-    ∙ sym (large_past text parts symbols)
+clipped_names : (q : ℕ) → is_past (name_bytes (clipped q)) ≡ is_past (name_bytes q)
+unfolding is_past
+clipped_names q = same_test 1048576 (name_bytes (clipped q)) (name_bytes q) (λ past. omega (arith, past)) (λ past. omega (arith, past))
+
+clipped_size : (at sections symbols names t r q : ℕ) → nat_lt 4194304 (rounded (last_end at (clipped r) (symbol_bytes sections symbols) names (name_bytes (clipped q))) 4 + 40 * section_count sections (clipped t)) ≡ nat_lt 4194304 (rounded (last_end at r (symbol_bytes sections symbols) names (name_bytes q)) 4 + 40 * section_count sections t)
+clipped_size at sections symbols names t r q =
+    same_test 4194304 (rounded (last_end at (clipped r) (symbol_bytes sections symbols) names (name_bytes (clipped q))) 4 + 40 * section_count sections (clipped t))
+    (rounded (last_end at r (symbol_bytes sections symbols) names (name_bytes q)) 4 + 40 * section_count sections t)
+    (λ past. omega (arith, past)) (λ past. omega (arith, past))
+
+passes_told : (at sections symbols names t r q : ℕ) (heavy : Bool) (s : Summary) → s.heavy ≡ heavy → s.tables ≡ clipped t → s.rows ≡ clipped r → s.names ≡ clipped q → passes at sections symbols names s ≡ pasts (section_count sections t) (heavy || (is_past (symbol_bytes sections symbols) || (is_past (1 + names) || is_past (name_bytes q)))) (last_end at r (symbol_bytes sections symbols) names (name_bytes q))
+unfolding passes
+passes_told at sections symbols names t r q heavy s one two three four =
+    rw (one, two, three, four, clipped_count sections t, clipped_names q, clipped_size at sections symbols names t r q) refl
+
+pub large_told : (text : List ℕ) (parts : List Part) (symbols : List Symbol) (s : Summary) → Tells text s parts → passes (parts_end 52 parts) (length parts) (length symbols) (names_total text symbols) s ≡ is_large text parts symbols
+large_told text parts symbols s tells =
+    passes_told (parts_end 52 parts) (length parts) (length symbols) (names_total text symbols) (sum_by part_tables parts) (sum_by part_rows parts) (sum_by (part_names text) parts) (list_any is_heavy parts) s tells.heavy tells.tables tells.rows tells.names
+    ∙ sym (large_past text parts symbols ∙ past_parts (suc (length (all_named text parts symbols))) (section_count (length parts) (sum_by part_tables parts)) (any_long (all_named text parts symbols)) (list_any is_heavy parts || (is_past (symbol_bytes (length parts) (length symbols)) || (is_past (1 + names_total text symbols) || is_past (name_bytes (sum_by (part_names text) parts)))))
+    (ends_all 52 (all_named text parts symbols)) (last_end (parts_end 52 parts) (sum_by part_rows parts) (symbol_bytes (length parts) (length symbols)) (names_total text symbols) (name_bytes (sum_by (part_names text) parts)))
+    (count_all text parts symbols) (long_all text parts symbols) (end_all text parts symbols))
+  where
+    past_parts : (n count : ℕ) (long other : Bool) (end at : ℕ) → n ≡ count → long ≡ other → end ≡ at → pasts n long end ≡ pasts count other at
+    past_parts n count long other end at first second third = rw (first, second, third) refl
+
+-- sections that end past the limit
+or_later : (a b c : Bool) → c ≡ true → (a || (b || c)) ≡ true
+or_later true b c is = refl
+or_later false true c is = refl
+or_later false false c is = is
+
+past_from : (m n : ℕ) → 4194304 < m → m ≤ n → nat_lt 4194304 n ≡ true
+past_from m n past less = grind (arith, nat_tests)
+
+passes_past : (at sections symbols names : ℕ) (s : Summary) → 4194304 < at → passes at sections symbols names s ≡ true
+unfolding passes
+passes_past at sections symbols names s past =
+    or_later (nat_lt 4096 (section_count sections s.tables)) (has_long sections symbols names s) (nat_lt 4194304 (whole_size at sections symbols names s))
+    (past_from at (whole_size at sections symbols names s) past (omega arith))
+
+pub large_past_end : (text : List ℕ) (parts : List Part) (symbols : List Symbol) (s : Summary) → Tells text s parts → 4194304 < parts_end 52 parts → true ≡ is_large text parts symbols
+large_past_end text parts symbols s tells past =
+    sym (passes_past (parts_end 52 parts) (length parts) (length symbols) (names_total text symbols) s past) ∙ large_told text parts symbols s tells

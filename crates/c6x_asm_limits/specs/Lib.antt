@@ -1,3 +1,3 @@
-pub mod Rows
-pub mod Walk
-pub mod Weights
+pub mod Places
+pub mod Sums
+pub mod Passing

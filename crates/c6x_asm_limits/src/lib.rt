@@ -1,20 +1,14 @@
 //! The limits of an assembled object: whether it passes them, from the lengths of its sections and names.
 #![tactic(auto)]
 
-mod before;
 mod large;
-mod light;
-mod moving;
-mod rows;
-mod tally;
+mod outline;
+mod placing;
+mod stretch;
+mod summary;
+mod summing;
 #[cfg(test)]
 mod tests;
-mod walking;
-mod weighing;
-mod weight;
 
-pub use before::Before;
 pub use large::is_large;
-pub use light::is_large_with;
-pub use moving::{before_line, reweighed, weight_of};
-pub use weight::Weight;
+pub use outline::Outline;

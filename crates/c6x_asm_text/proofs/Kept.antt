@@ -1,11 +1,10 @@
 -- What is true of the sections and symbols of a text that breaks no rule.
-use Rattle.std.proofs.Common.{◌≡◌, ℕ, ◌+◌, Bool, true, false, cond, List, [], ◌∷◌, ◌++◌, Option, Some, None, Result, Ok, Err, IfOk, refl, sym, ◌∙◌, ap, subst}
+use Rattle.std.proofs.Common.{◌≡◌, ℕ, ◌+◌, Bool, true, false, cond, List, [], ◌∷◌, Option, Some, None, Result, Ok, Err, refl, ◌∙◌, ap, subst}
 use Rattle.c6x_lex.specs.declared.token.Token.{Token}
 use Rattle.c6x_lex.specs.Tokens.{Spot, tokens_of}
 use Rattle.c6x_asm_lines.specs.declared.lexeme.Lexeme.{Lexeme}
 use Rattle.c6x_asm_lines.specs.declared.line.Line.{Line}
 use Rattle.c6x_asm_lines.specs.Grammar.{line_of}
-use Rattle.c6x_asm_lines.specs.Lexemes.{lexeme_of}
 use Rattle.c6x_asm_operands.specs.declared.rule.AsmRule.{AsmRule}
 use Rattle.c6x_elf.specs.Parts.{has_bytes}
 use Rattle.c6x_elf.specs.Writing.{offset_end, written_size}
@@ -14,7 +13,6 @@ use Rattle.c6x_asm_form.specs.Headers.{null_section, table_section}
 use Rattle.c6x_asm_form.specs.Limits.{is_large, is_long, passes_limit}
 use Rattle.c6x_asm_form.specs.Symbols.{entry_row, name_table, ordered, symbol_numbers, symbol_table}
 use Rattle.c6x_asm_steps.specs.States.{State}
-use Rattle.c6x_asm_steps.specs.Stepping.{stepped}
 use Rattle.c6x_asm_kept.specs.Keeping.{IsStateSound}
 use Rattle.c6x_asm_kept.proofs.Steps.{stepped_sound}
 use Rattle.c6x_asm_kept.proofs.Runs.{sound_begins}

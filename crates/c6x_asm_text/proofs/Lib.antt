@@ -1,4 +1,4 @@
 pub mod Inside
 pub mod Kept
 pub mod Passes
-pub mod Weighed
+pub mod Followed

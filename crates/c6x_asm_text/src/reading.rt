@@ -8,7 +8,7 @@ ghost use Rattle.c6x_asm_text.specs.Reading.{lower_line, bad_line, before, nothi
 use crate::asm_error::AsmError;
 use crate::broken::Broken;
 use crate::running::{add_line, ends_in_newline, run};
-use c6x_asm_limits::weight_of;
+use c6x_asm_limits::Outline;
 use c6x_asm_lines::Lexeme;
 use c6x_asm_object::{Object, Part};
 use c6x_asm_operands::AsmRule;
@@ -98,8 +98,8 @@ fn add_last<'a>(
     if ends_in_newline(text) {
         return Ok(Ok(()));
     }
-    let mut weight = weight_of(text, &object.parts);
-    match add_line(alloc, text, line, lexemes, object, &mut weight)? {
+    let mut outline = Outline::of(alloc, text, &object.parts)?;
+    match add_line(alloc, text, line, lexemes, object, &mut outline)? {
         Ok(()) => Ok(Ok(())),
         Err(rule) => Ok(Err(Broken { rule, line })),
     }

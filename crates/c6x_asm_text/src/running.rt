@@ -5,12 +5,12 @@ ghost use Rattle.c6x_asm_form.specs.Limits.{is_large};
 ghost use Rattle.c6x_asm_operands.specs.declared.rule.AsmRule.TheVariants.{Large};
 ghost use Rattle.c6x_asm_steps.specs.States.{State, state_of, IsSound, Becomes};
 ghost use Rattle.c6x_asm_lines.specs.Grammar.{line_of};
-ghost use Rattle.c6x_asm_limits.specs.Weights.{weight_of};
+ghost use Rattle.c6x_asm_limits.specs.Sums.{AreBlocks};
 ghost use Rattle.c6x_asm_text.specs.Lines.{counted, sized, read_line, lined, ends_in_newline};
 ghost use Rattle.c6x_asm_text.specs.Running.{is_end, run_from, Runs, Goes};
 
 use crate::broken::Broken;
-use c6x_asm_limits::{Weight, before_line, is_large_with, reweighed, weight_of};
+use c6x_asm_limits::{Outline, is_large};
 use c6x_asm_lines::{Lexeme, lexeme_of, line_of};
 use c6x_asm_object::Object;
 use c6x_asm_operands::AsmRule;
@@ -35,44 +35,45 @@ fn read_line<'a>(
     }
 }
 
-// The weight of the sections goes with them, so that a line takes no walk over them.
-fn read_weighed<'a>(
+// The outline follows, so that a line takes no walk over all sections.
+fn read_followed<'a>(
     alloc: Global,
     text: &'a [u8],
     number: u32,
     lexemes: &[Lexeme],
     object: &mut Object<'a>,
-    weight: &mut Weight,
+    outline: &mut Outline,
 ) -> Result<Result<(), AsmRule>, AllocError>
     requires sound { IsSound text.now object.old }
-    requires weight { weight.old ≡ weight_of text.now object.old.parts.items }
+    requires outline { AreBlocks text.now object.old.parts.items outline.old }
     ensures is { IfOk result (λ done. Becomes done object.new (read_line text.now number (line_of lexemes.now) (state_of object.old))) }
     ensures sound { IfOk result (λ done. IsSound text.now object.new) }
-    ensures weight { IfOk result (λ done. OnOk done (weight.new ≡ weight_of text.now object.new.parts.items)) }
+    ensures outline { IfOk result (λ done. OnOk done (AreBlocks text.now object.new.parts.items outline.new)) }
 {
-    let before = before_line(text, &object.parts, object.current);
+    let count = object.parts.as_slice().len();
+    let current = object.current;
     match read_line(alloc, text, number, lexemes, object)? {
         Err(rule) => Ok(Err(rule)),
         Ok(()) => {
-            *weight = reweighed(text, *weight, before, &object.parts);
+            outline.follow(text, &object.parts, count, current)?;
             Ok(Ok(()))
         }
     }
 }
 
 // `Large` where the object of the lines so far passes a limit.
-fn limit_fault(text: &[u8], object: &Object, weight: Weight) -> Option<AsmRule>
+fn limit_fault(text: &[u8], object: &Object, outline: &Outline) -> Option<AsmRule>
     requires sound { IsSound text.now object.now }
-    requires weight { weight ≡ weight_of text.now object.now.parts.items }
+    requires outline { AreBlocks text.now object.now.parts.items outline.now }
     ensures { result ≡ (if is_large text.now object.now.parts.items object.now.symbols.list.items then Some Large else None) }
 {
     let symbols = &object.symbols;
-    if is_large_with(
+    if is_large(
         text,
         &object.parts,
         &symbols.list,
         symbols.names_len,
-        weight,
+        outline,
     ) {
         Some(AsmRule::Large)
     } else {
@@ -86,41 +87,41 @@ fn sized<'a>(
     number: u32,
     lexemes: &[Lexeme],
     object: &mut Object<'a>,
-    weight: &mut Weight,
+    outline: &mut Outline,
 ) -> Result<Result<(), AsmRule>, AllocError>
     requires sound { IsSound text.now object.old }
-    requires weight { weight.old ≡ weight_of text.now object.old.parts.items }
+    requires outline { AreBlocks text.now object.old.parts.items outline.old }
     ensures is { IfOk result (λ done. Becomes done object.new (sized text.now (read_line text.now number (line_of lexemes.now) (state_of object.old)))) }
     ensures sound { IfOk result (λ done. IsSound text.now object.new) }
-    ensures weight { IfOk result (λ done. OnOk done (weight.new ≡ weight_of text.now object.new.parts.items)) }
+    ensures outline { IfOk result (λ done. OnOk done (AreBlocks text.now object.new.parts.items outline.new)) }
 {
-    match read_weighed(alloc, text, number, lexemes, object, weight)? {
+    match read_followed(alloc, text, number, lexemes, object, outline)? {
         Err(rule) => Ok(Err(rule)),
-        Ok(()) => match limit_fault(text, object, *weight) {
+        Ok(()) => match limit_fault(text, object, outline) {
             Some(rule) => Ok(Err(rule)),
             None => Ok(Ok(())),
         },
     }
 }
 
-#[tactic(auto, unfolding(crate::specs::Lines::lined))]
 /// Adds a line, or answers the lowest rule that it breaks.
+#[tactic(auto, unfolding(crate::specs::Lines::lined))]
 pub fn add_line<'a>(
     alloc: Global,
     text: &'a [u8],
     number: u32,
     lexemes: &[Lexeme],
     object: &mut Object<'a>,
-    weight: &mut Weight,
+    outline: &mut Outline,
 ) -> Result<Result<(), AsmRule>, AllocError>
     requires sound { IsSound text.now object.old }
-    requires weight { weight.old ≡ weight_of text.now object.old.parts.items }
+    requires outline { AreBlocks text.now object.old.parts.items outline.old }
     ensures is { IfOk result (λ done. Becomes done object.new (lined text.now number lexemes.now (state_of object.old))) }
     ensures sound { IfOk result (λ done. IsSound text.now object.new) }
     ensures small { IfOk result (λ done. OnOk done (number ≤ 65536)) }
-    ensures weight { IfOk result (λ done. OnOk done (weight.new ≡ weight_of text.now object.new.parts.items)) }
+    ensures outline { IfOk result (λ done. OnOk done (AreBlocks text.now object.new.parts.items outline.new)) }
 {
-    match sized(alloc, text, number, lexemes, object, weight)? {
+    match sized(alloc, text, number, lexemes, object, outline)? {
         Err(rule) => Ok(Err(rule)),
         Ok(()) => {
             if number > 65_536 {
@@ -147,25 +148,25 @@ fn advance<'a>(
     line: u32,
     lexemes: &mut Vec<Lexeme>,
     object: &mut Object<'a>,
-    weight: &mut Weight,
+    outline: &mut Outline,
 ) -> Result<Result<u32, AsmRule>, AllocError>
     requires inside { token.at + token.len ≤ length text.now }
     requires small { length text.now < 2 ^ 32 }
     requires some { 1 ≤ token.len }
     requires lines { line ≤ 65537 }
     requires sound { IsSound text.now object.old }
-    requires weight { weight.old ≡ weight_of text.now object.old.parts.items }
+    requires outline { AreBlocks text.now object.old.parts.items outline.old }
     ensures goes { IfOk result (λ r. (end : Option ℕ) (tokens : List Token) → is_end end line ≡ false → Goes r line (run_from text.now end line lexemes.old.items (state_of object.old) (token ∷ tokens)) (λ next. run_from text.now end next lexemes.new.items (state_of object.new) tokens)) }
     ensures lines { IfOk result (λ r. IfOk r (λ next. next ≤ 65537)) }
     ensures sound { IfOk result (λ r. IsSound text.now object.new) }
-    ensures weight { IfOk result (λ r. OnOk r (weight.new ≡ weight_of text.now object.new.parts.items)) }
+    ensures outline { IfOk result (λ r. OnOk r (AreBlocks text.now object.new.parts.items outline.new)) }
 {
     match lexeme_of(text, token) {
         Some(lexeme) => {
             lexemes.push(lexeme).map_err(AllocError::from)?;
             Ok(Ok(line))
         }
-        None => match add_line(alloc, text, line, lexemes.as_slice(), object, weight)? {
+        None => match add_line(alloc, text, line, lexemes.as_slice(), object, outline)? {
             Err(rule) => Ok(Err(rule)),
             Ok(()) => {
                 lexemes.clear();
@@ -200,12 +201,12 @@ pub fn run<'a>(
     ensures sound { IfOk result (λ r. IsSound text.now object.new) }
 {
     let mut line = 1;
-    let mut weight = weight_of(text, &object.parts);
+    let mut outline = Outline::of(alloc, text, &object.parts)?;
     for token in tokens {
         if is_end(end, line) {
             return Ok(Ok(line));
         }
-        match advance(alloc, text, *token, line, lexemes, object, &mut weight)? {
+        match advance(alloc, text, *token, line, lexemes, object, &mut outline)? {
             Ok(next) => line = next,
             Err(rule) => return Ok(Err(Broken { rule, line })),
         }

@@ -1,0 +1,133 @@
+ghost use Rattle.std.specs.Prelude.{◌≡◌, ℕ, ◌+◌, ◌<◌, ◌^◌, ◌≤◌, max, length, Some, IfSome};
+ghost use Rattle.c6x_base.specs.Rounded.{rounded};
+ghost use Rattle.c6x_asm_limits.specs.Places.{Ends, Reaches, both, end_of, is_stored, kept, part_end, part_stretch, small, small_end};
+
+use crate::stretch::Stretch;
+use c6x_asm_object::{Part, PartKind};
+
+/// The most bytes of a file.
+pub const MOST_BYTES: u64 = 4_194_304;
+
+// The least multiple of `align` from a place on.
+fn rounded(at: u64, align: u32) -> u64
+    requires small { at < 2 ^ 34 }
+    requires some { 1 ≤ align }
+    ensures place { result ≡ rounded at align }
+    ensures small { result < 2 ^ 35 }
+{
+    let align = u64::from(align);
+    (at + (align - 1)) / align * align
+}
+
+fn is_stored(kind: PartKind) -> bool
+    ensures { result ≡ is_stored kind }
+{
+    match kind {
+        PartKind::Zero => false,
+        _ => true,
+    }
+}
+
+fn kept(ahead: u64, align: u32, behind: u64) -> Option<Stretch>
+    ensures { result ≡ kept ahead align behind }
+{
+    Some(Stretch {
+        ahead: u32::try_from(ahead).ok()?,
+        align,
+        behind: u32::try_from(behind).ok()?,
+    })
+}
+
+/// What a section does to a place.
+#[tactic(auto, unfolding(crate::specs::Places::part_stretch))]
+pub fn part_stretch(part: &Part) -> Option<Stretch>
+    ensures { result ≡ part_stretch part.now }
+{
+    if is_stored(part.kind) {
+        kept(0, part.align, part.bytes.as_slice().len() as u64)
+    } else {
+        Some(Stretch {
+            ahead: 0,
+            align: 1,
+            behind: 0,
+        })
+    }
+}
+
+/// One stretch behind another. None where none of their alignments is a multiple of the other, or for large numbers.
+#[tactic(auto, unfolding(crate::specs::Places::both))]
+pub fn both(a: Stretch, b: Stretch) -> Option<Stretch>
+    ensures { result ≡ both a b }
+{
+    let first = a.align.max(1);
+    let second = b.align.max(1);
+    let between = u64::from(a.behind) + u64::from(b.ahead);
+    if second % first == 0 {
+        kept(
+            u64::from(a.ahead) + rounded(between, first),
+            b.align,
+            u64::from(b.behind),
+        )
+    } else if first % second == 0 {
+        kept(
+            u64::from(a.ahead),
+            a.align,
+            rounded(between, second) + u64::from(b.behind),
+        )
+    } else {
+        None
+    }
+}
+
+// Where a stretch ends that begins at a place.
+#[tactic(auto, unfolding(crate::specs::Places::end_of))]
+fn end_of(s: Stretch, at: u32) -> u64
+    ensures { result ≡ end_of s at }
+{
+    rounded(u64::from(at) + u64::from(s.ahead), s.align.max(1)) + u64::from(s.behind)
+}
+
+// No place past the most bytes of a file.
+fn small(at: u64) -> Option<u64>
+    ensures is { result ≡ small at }
+    ensures few { IfSome result (λ end. end ≤ 4194304) }
+{
+    if at > MOST_BYTES { None } else { Some(at) }
+}
+
+#[tactic(auto, unfolding(crate::specs::Places::place_behind))]
+fn part_end(at: u64, part: &Part) -> u64
+    requires { at ≤ 4194304 }
+    ensures { result ≡ part_end at part.now }
+{
+    if is_stored(part.kind) {
+        rounded(at, part.align.max(1)) + part.bytes.as_slice().len() as u64
+    } else {
+        at
+    }
+}
+
+// A walk over the sections.
+fn small_end(at: u64, parts: &[Part]) -> Option<u64>
+    requires { at ≤ 4194304 }
+    ensures is { result ≡ small_end at parts.now }
+    ensures few { IfSome result (λ end. end ≤ 4194304) }
+{
+    let mut end = at;
+    for part in parts {
+        end = small(part_end(end, part))?;
+    }
+    Some(end)
+}
+
+/// Where sections that begin behind the file header end. None where that is past the most bytes of a file.
+#[tactic(auto, using(crate::proofs::Stretches::small_ends))]
+pub fn end(parts: &[Part], stretch: Option<Stretch>) -> Option<u64>
+    requires { Reaches stretch parts.now }
+    ensures { Ends 52 result parts.now }
+{
+    match stretch {
+        Some(s) => Some(end_of(s, 52)),
+        None => small_end(52, parts),
+    }
+}

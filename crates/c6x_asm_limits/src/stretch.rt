@@ -1,0 +1,7 @@
+/// What consecutive sections do to a place in the file: `ahead` bytes, then up to a multiple of `align`, then `behind` bytes.
+#[derive(Debug, Clone, Copy, PartialEq, Eq)]
+pub struct Stretch {
+    pub ahead: u32,
+    pub align: u32,
+    pub behind: u32,
+}
