@@ -6,7 +6,8 @@ use Rattle.std.proofs.lemmas.List.FromFn.{map-range_with_len_more}
 use Rattle.std.proofs.lemmas.List.Sums.{count_by_more_yes, count_by_more_no}
 use Rattle.c6x_asm_object.specs.declared.symbol.Symbol.{Symbol}
 use Rattle.c6x_asm_form.specs.Bindings.{is_local, is_other}
-use Rattle.c6x_asm_form.specs.Symbols.{symbol_number, no_symbol}
+use Rattle.c6x_asm_form.specs.Symbols.{symbol_number}
+use Rattle.c6x_asm_object.specs.Symbols.{no_symbol}
 
 pub number_local : (sections : ℕ) (symbols : List Symbol) (i : ℕ) (d : Symbol) → i < length symbols → is_local (get_or symbols i d) ≡ true → symbol_number sections symbols i ≡ 1 + sections + count_by is_local (take i symbols)
 unfolding symbol_number

@@ -22,7 +22,8 @@ use Rattle.c6x_reloc.specs.declared.reloc_kind.RelocKind.TheVariants.{NONE, ABS3
 use Rattle.c6x_asm_form.specs.Bindings.{is_local, is_other}
 use Rattle.c6x_asm_form.specs.Relocations.{info_of, kind_number, number_at, relocation_row, relocation_rows}
 use Rattle.c6x_asm_form.specs.Sound.{IsEntrySound}
-use Rattle.c6x_asm_form.specs.Symbols.{no_symbol, symbol_number, symbol_numbers, symbol_with}
+use Rattle.c6x_asm_form.specs.Symbols.{symbol_number, symbol_numbers}
+use Rattle.c6x_asm_object.specs.Symbols.{no_symbol, symbol_of}
 use Rattle.c6x_asm_form.proofs.Lengths.{length-relocation_row, length-relocation_rows, locals_before, others_before}
 use Rattle.c6x_asm_form.proofs.Lists.{Each}
 use Rattle.c6x_asm_form.proofs.ReadBack.{word_read}
@@ -69,7 +70,7 @@ local_number false n before all others total local other =
 symbol_below : (sections : ℕ) (symbols : List Symbol) (i : ℕ) → i < length symbols → symbol_number sections symbols i < 1 + sections + length symbols
 unfolding symbol_number
 symbol_below sections symbols i below =
-    local_number (is_local (symbol_with symbols i)) sections (count_by is_local (take i symbols)) (count_by is_local symbols)
+    local_number (is_local (symbol_of symbols i)) sections (count_by is_local (take i symbols)) (count_by is_local symbols)
     (count_by is_other (take i symbols)) (length symbols)
     (λ is. locals_before symbols i below)
     (λ is. others_before symbols i no_symbol below (ap not is))

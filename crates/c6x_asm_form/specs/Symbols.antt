@@ -1,7 +1,7 @@
 -- The symbol table of an object and its names (gABI chapter 4, "Symbol Table" and "String Table"): the null symbol, the
 -- section symbols, the local names, the others; the order inside a group is that of first appearance.
-use Rattle.std.specs.Prelude.{ℕ, zero, suc, ◌+◌, ◌*◌, ◌%◌, false, if◌then◌else◌, None, List, [], ◌∷◌, ◌++◌, length, map, take, filter, count_by, slice_index_or}
-use Rattle.c6x_asm_object.specs.Symbols.{symbol_name}
+use Rattle.std.specs.Prelude.{ℕ, zero, suc, ◌+◌, ◌*◌, ◌%◌, false, if◌then◌else◌, None, List, [], ◌∷◌, ◌++◌, length, map, take, filter, count_by}
+use Rattle.c6x_asm_object.specs.Symbols.{symbol_name, symbol_of}
 use Rattle.std.specs.Int.{to_le_bytes, w16, w32}
 use Rattle.std.specs.List.{range_with_len}
 use Rattle.c6x_asm_object.specs.declared.symbol.Symbol.{Symbol}
@@ -43,16 +43,10 @@ name_rows text (s ∷ symbols) = symbol_name text s ++ (0 ∷ name_rows text sym
 unfoldable pub name_table : List ℕ → List Symbol → List ℕ
 name_table text symbols = 0 ∷ name_rows text (ordered symbols)
 
-unfoldable pub no_symbol : Symbol
-no_symbol = record { at = 0; len = 0; spot = None; global = false; weak = false; hidden = false }
-
-abbrev pub symbol_with : List Symbol → ℕ → Symbol
-symbol_with symbols i = slice_index_or symbols i no_symbol
-
 -- the number in the table of the symbol with this index among the names by first appearance
 unfoldable pub symbol_number : ℕ → List Symbol → ℕ → ℕ
 symbol_number sections symbols i =
-    if is_local (symbol_with symbols i) then 1 + sections + count_by is_local (take i symbols)
+    if is_local (symbol_of symbols i) then 1 + sections + count_by is_local (take i symbols)
     else 1 + sections + count_by is_local symbols + count_by is_other (take i symbols)
 
 unfoldable pub symbol_numbers : ℕ → List Symbol → List ℕ

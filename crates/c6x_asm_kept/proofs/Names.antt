@@ -10,8 +10,8 @@ use Rattle.c6x_asm_operands.specs.declared.relocation.Relocation.{Relocation}
 use Rattle.c6x_asm_directives.specs.Directives.{quoted}
 use Rattle.c6x_asm_object.specs.declared.entry.Entry.{Entry}
 use Rattle.c6x_asm_object.specs.declared.symbol.Symbol.{Symbol}
-use Rattle.c6x_asm_object.specs.Symbols.{fresh, interned, or_added, symbol_at, symbol_name}
-use Rattle.c6x_asm_steps.specs.States.{name_changed, named_entry, no_symbol, relocated, symbol_of}
+use Rattle.c6x_asm_object.specs.Symbols.{fresh, interned, no_symbol, or_added, symbol_at, symbol_name, symbol_of}
+use Rattle.c6x_asm_steps.specs.States.{name_changed, named_entry, relocated}
 use Rattle.c6x_asm_form.specs.Sound.{IsEntrySound, IsSymbolSound}
 
 -- names behind those before, and the place of one of them

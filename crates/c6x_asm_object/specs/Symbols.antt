@@ -1,5 +1,5 @@
 -- The names of a text, in order of first appearance.
-use Rattle.std.specs.Prelude.{ℕ, ◌+◌, false, List, [], ◌∷◌, ◌++◌, length, Option, Some, None, position}
+use Rattle.std.specs.Prelude.{ℕ, ◌+◌, false, List, [], ◌∷◌, ◌++◌, length, slice_index_or, Option, Some, None, position}
 use Rattle.std.specs.Str.{bytes_eq}
 use Rattle.c6x_asm_lines.specs.declared.word.Word.{Word}
 use Rattle.c6x_asm_directives.specs.Directives.{quoted}
@@ -7,6 +7,13 @@ use Rattle.c6x_asm_object.specs.declared.symbol.Symbol.{Symbol}
 
 abbrev pub symbol_name : List ℕ → Symbol → List ℕ
 symbol_name text s = quoted text s.at s.len
+
+unfoldable pub no_symbol : Symbol
+no_symbol = record { at = 0; len = 0; spot = None; global = false; weak = false; hidden = false }
+
+-- the name with this number
+abbrev pub symbol_of : List Symbol → ℕ → Symbol
+symbol_of symbols i = slice_index_or symbols i no_symbol
 
 -- the place of a name among those so far
 unfoldable pub symbol_at : List ℕ → List Symbol → List ℕ → Option ℕ

@@ -11,9 +11,9 @@ use Rattle.c6x_asm_object.specs.declared.spot.Spot.{Spot}
 use Rattle.c6x_asm_object.specs.declared.symbol.Symbol.{Symbol}
 use Rattle.c6x_asm_object.specs.Names.{name_at}
 use Rattle.c6x_asm_object.specs.Named.{part_name, part_names}
-use Rattle.c6x_asm_object.specs.Symbols.{symbol_name, names_total}
+use Rattle.c6x_asm_object.specs.Symbols.{names_total, no_symbol, symbol_name, symbol_of}
 use Rattle.c6x_asm_object.proofs.Finding.{position_along}
-use Rattle.c6x_asm_steps.specs.States.{part_at, no_symbol, symbol_of, symbol_changed, placed_at, marked_by}
+use Rattle.c6x_asm_steps.specs.States.{part_at, symbol_changed, placed_at, marked_by}
 
 pub name_of_part : (text : List ℕ) (parts : List Part) (name : List ℕ) → name_at (part_names text parts) name ≡ part_at text parts name
 unfolding name_at part_at

@@ -1,8 +1,7 @@
 -- The sections and symbols that the lines so far make.
-use Rattle.std.specs.Prelude.{ℕ, ◌+◌, ◌<◌, true, false, List, [], ◌∷◌, ◌++◌, length, slice_index_or, slice_set, Option, Some, None, IfSome, vec_len, position}
+use Rattle.std.specs.Prelude.{◌≡◌, ℕ, ◌+◌, ◌<◌, true, false, List, [], ◌∷◌, ◌++◌, length, slice_set, Option, Some, None, Result, Ok, Err, IfSome, vec_len, position}
 use Rattle.std.specs.Str.{bytes_eq}
 use Rattle.c6x_asm_lines.specs.declared.word.Word.{Word}
-use Rattle.std.specs.Prelude.{◌≡◌, Result, Ok, Err}
 use Rattle.c6x_asm_operands.specs.declared.rule.AsmRule.{AsmRule}
 use Rattle.c6x_asm_operands.specs.declared.rule.AsmRule.TheVariants.{DuplicateLabel, NoSection}
 use Rattle.c6x_asm_operands.specs.declared.relocation.Relocation.{Relocation}
@@ -18,7 +17,7 @@ use Rattle.c6x_asm_object.specs.declared.symbol.Symbol.{Symbol}
 use Rattle.c6x_asm_object.specs.Kinds.{kind_named}
 use Rattle.c6x_asm_object.specs.Named.{AreNamed, part_names}
 use Rattle.c6x_asm_object.specs.Parts.{empty_part, part_of}
-use Rattle.c6x_asm_object.specs.Symbols.{symbol_at, interned}
+use Rattle.c6x_asm_object.specs.Symbols.{interned, symbol_at, symbol_of}
 
 pub record State : Type 0 where
   pub parts : List Part
@@ -33,12 +32,6 @@ pub record IsSound (text : List ℕ) (o : Object) : Type 0 where
   pub current : IfSome o.current (λ i. i < vec_len o.parts)
   pub parts : o.part_names ≡ part_names text o.parts.items
   pub symbols : AreNamed text o.symbols
-
-unfoldable pub no_symbol : Symbol
-no_symbol = record { at = 0; len = 0; spot = None; global = false; weak = false; hidden = false }
-
-abbrev pub symbol_of : List Symbol → ℕ → Symbol
-symbol_of symbols i = slice_index_or symbols i no_symbol
 
 abbrev pub placed_at : Spot → Symbol → Symbol
 placed_at spot s = record s { spot = Some spot }

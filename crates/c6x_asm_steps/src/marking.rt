@@ -1,6 +1,7 @@
 ghost use Rattle.std.specs.Prelude.{◌≡◌, ◌<◌, OnOk, vec_len};
 ghost use Rattle.c6x_asm_object.specs.Named.{AreNamed};
-ghost use Rattle.c6x_asm_steps.specs.States.{symbol_of, placed_at, marked_by, symbol_changed, name_changed, spot_of, fault_of_spot, placed_fault};
+ghost use Rattle.c6x_asm_object.specs.Symbols.{symbol_of};
+ghost use Rattle.c6x_asm_steps.specs.States.{placed_at, marked_by, symbol_changed, name_changed, spot_of, fault_of_spot, placed_fault};
 
 use c6x_asm_directives::Mark;
 use c6x_asm_lines::Word;
