@@ -18,6 +18,17 @@ pub record WriteFaults : Type 0 where
   pub shelf_before : ℕ
   pub shelf_after : ℕ
 
+-- from what they were and what they are
+abbrev pub write_faults : ℕ → ℕ → ℕ → ℕ → ℕ → ℕ → WriteFaults
+write_faults out err shelf new_out new_err new_shelf = record {
+  out_before = out;
+  out_after = new_out;
+  err_before = err;
+  err_after = new_err;
+  shelf_before = shelf;
+  shelf_after = new_shelf;
+}
+
 -- A fault of the output or of the error output was counted, or of a store where the command stores.
 abbrev pub ShowsFault : Bool → WriteFaults → Type 0
 ShowsFault storing writes =

@@ -34,6 +34,21 @@ pub record Devices : Type 0 where
   pub board_before : Memory
   pub board_after : Memory
 
+-- from what they were and what they are
+abbrev pub devices : Option Files → Option (List ℕ) → Option (List ℕ) → ℕ → Memory → Option Files → Option (List ℕ) → Option (List ℕ) → ℕ → Memory → Devices
+devices files out err err_faults board new_files new_out new_err new_err_faults new_board = record {
+  files_before = files;
+  files_after = new_files;
+  out_before = out;
+  out_after = new_out;
+  err_before = err;
+  err_after = new_err;
+  err_faults_before = err_faults;
+  err_faults_after = new_err_faults;
+  board_before = board;
+  board_after = new_board;
+}
+
 -- A line was put on the error output: it took all of it, and the status is the one wanted; or a fault cut it, and the
 -- status is 6.
 abbrev pub Speaks : List ℕ → ℕ → ℕ → Option (List ℕ) → Option (List ℕ) → ℕ → ℕ → Type 0

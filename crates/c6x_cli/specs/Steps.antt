@@ -42,6 +42,11 @@ pub record Counts : Type 0 where
   pub absences_before : ℕ
   pub absences_after : ℕ
 
+-- from what they were and what they are
+abbrev pub counts : ℕ → ℕ → ℕ → ℕ → Counts
+counts faults absences new_faults new_absences =
+    record { faults_before = faults; faults_after = new_faults; absences_before = absences; absences_after = new_absences }
+
 -- What a stop shows of the counts: a missing file was an absence, a file that could not be read was a fault.
 abbrev pub HasCause : Stop → Counts → Type 0
 HasCause (Because (Missing _)) counts = Rose counts.absences_before counts.absences_after

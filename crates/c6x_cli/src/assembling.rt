@@ -5,7 +5,7 @@ ghost use Rattle.c6x_elf.specs.Form.{IsTidy};
 ghost use Rattle.c6x_elf.specs.Writing.{written};
 ghost use Rattle.c6x_cli.specs.Assembling.{object_bytes, or_broken, too_long, within_most};
 ghost use Rattle.c6x_cli.specs.declared.stop.Stop.TheVariants.{Memory as memory};
-ghost use Rattle.c6x_cli.specs.Steps.{Gives, HasCause, IsNoUsage, IsOwn, most_bytes};
+ghost use Rattle.c6x_cli.specs.Steps.{Gives, HasCause, IsNoUsage, IsOwn, most_bytes, counts};
 
 use crate::cause::Rule;
 use crate::fetch::{MOST_BYTES, fetch_file};
@@ -21,12 +21,8 @@ use std::alloc::Global;
 #[tactic(auto, using(crate::proofs::Objects::object_is_made, crate::proofs::Objects::stops_at_fetch, crate::proofs::Objects::stops_at_length, crate::proofs::Objects::stops_at_text))]
 pub fn prepare_object<S: Shelf>(alloc: Global, shelf: &mut S, name: &Name) -> Result<Bytes, Stop>
     ensures gives { (told : Files) → S.files shelf.old ≡ Some told → Gives (λ bytes. bytes) result (object_bytes told name.now) (name.now ∷ []) }
-    ensures cause { IfErr result (λ stop. HasCause stop (record {
-      faults_before = S.read_faults shelf.old;
-      faults_after = S.read_faults shelf.new;
-      absences_before = S.absences shelf.old;
-      absences_after = S.absences shelf.new;
-    })) }
+    ensures cause { IfErr result (λ stop. HasCause stop
+        (counts (S.read_faults shelf.old) (S.absences shelf.old) (S.read_faults shelf.new) (S.absences shelf.new))) }
     ensures no_usage { IfErr result IsNoUsage }
     ensures files_stay { S.files shelf.new ≡ S.files shelf.old }
     ensures write_faults_stay { S.write_faults shelf.new ≡ S.write_faults shelf.old }

@@ -5,7 +5,7 @@ ghost use Rattle.c6x_module.specs.Plain.{plain_module};
 ghost use Rattle.c6x_module.specs.Valid.{IsValid, IsAlone};
 ghost use Rattle.c6x_plan.specs.Plain.{plain_plan};
 ghost use Rattle.c6x_load.specs.Placement.{IsStack, IsPlacement, placed_one};
-ghost use Rattle.c6x_cli.specs.Steps.{Gives, HasCause, IsOwn, IsNoUsage, or_not_built};
+ghost use Rattle.c6x_cli.specs.Steps.{Gives, HasCause, IsOwn, IsNoUsage, or_not_built, counts};
 ghost use Rattle.c6x_cli.specs.declared.stop.Stop.TheVariants.{Memory as memory};
 ghost use Rattle.c6x_cli.specs.Run.{IsFresh};
 ghost use Rattle.c6x_cli.specs.Loading.{loading_of, fetches_of, IsReady};
@@ -32,12 +32,8 @@ pub fn prepare_loading<S: Shelf>(
     board: &Board,
 ) -> Result<Loading, Stop>
     ensures gives { (told : Files) → S.files shelf.old ≡ Some told → Gives (λ loading. loading) result (loading_of told name.now board.now.base (length board.now.bytes)) (fetches_of told name.now) }
-    ensures cause { IfErr result (λ stop. HasCause stop (record {
-      faults_before = S.read_faults shelf.old;
-      faults_after = S.read_faults shelf.new;
-      absences_before = S.absences shelf.old;
-      absences_after = S.absences shelf.new;
-    })) }
+    ensures cause { IfErr result (λ stop. HasCause stop
+        (counts (S.read_faults shelf.old) (S.absences shelf.old) (S.read_faults shelf.new) (S.absences shelf.new))) }
     ensures no_usage { IfErr result IsNoUsage }
     ensures ready { IfOk result (IsReady board.now) }
     ensures files_stay { S.files shelf.new ≡ S.files shelf.old }

@@ -3,10 +3,10 @@ ghost use Rattle.c6x_spec.specs.Files.{Files, Rose};
 ghost use Rattle.c6x_spec.specs.Sinks.{Takes, TakesFront};
 ghost use Rattle.c6x_cli.specs.declared.command_word.Command.TheVariants.{Assemble as assemble_word, Map as map_word, Run as run_word};
 ghost use Rattle.c6x_cli.specs.declared.halt.Halt.TheVariants.{Memory as memory, WriteFault as write_fault};
-ghost use Rattle.c6x_cli.specs.Causes.{Causes, Keeps, ShowsFault, Spoken, TellsUsage, EndsUsage, WriteFaults};
-ghost use Rattle.c6x_cli.specs.Exits.{CutsDone, Ends, Exits, Devices};
+ghost use Rattle.c6x_cli.specs.Causes.{Causes, Keeps, ShowsFault, Spoken, TellsUsage, EndsUsage, write_faults};
+ghost use Rattle.c6x_cli.specs.Exits.{CutsDone, Ends, Exits, devices};
 ghost use Rattle.c6x_cli.specs.Result.{result_of, done_of, fetched_by, done_view, is_store, IsCarried};
-ghost use Rattle.c6x_cli.specs.Steps.{Gives, HasCause, Counts, IsNoUsage};
+ghost use Rattle.c6x_cli.specs.Steps.{Gives, HasCause, IsNoUsage, counts};
 ghost use Rattle.c6x_cli.specs.Stores.{HasStored, HasCutStore};
 ghost use Rattle.c6x_cli.specs.Words.{command_of, is_storing};
 
@@ -46,72 +46,27 @@ pub fn command<S: Shelf, O: Sink, E: Sink>(
     // For a told shelf: the status, both texts, the board and the files are those of one definition, or a device
     // stopped the call.
     ensures exits { (told : Files) → S.files shelf.old ≡ Some told
-        → Exits (result_of (command_of words.items) told board.old) (fetched_by (command_of words.items) told) result (record {
-          files_before = S.files shelf.old;
-          files_after = S.files shelf.new;
-          out_before = O.taken out.old;
-          out_after = O.taken out.new;
-          err_before = E.taken err.old;
-          err_after = E.taken err.new;
-          err_faults_before = E.faults err.old;
-          err_faults_after = E.faults err.new;
-          board_before = board.old;
-          board_after = board.new;
-        }) }
+        → Exits (result_of (command_of words.items) told board.old) (fetched_by (command_of words.items) told) result
+        (devices (S.files shelf.old) (O.taken out.old) (E.taken err.old) (E.faults err.old) board.old
+        (S.files shelf.new) (O.taken out.new) (E.taken err.new) (E.faults err.new) board.new) }
 
     // For every shelf: what each status shows of the counts, and what was written beside it.
     ensures causes { Causes result (is_storing (command_of words.items))
-        (record {
-          faults_before = S.read_faults shelf.old;
-          faults_after = S.read_faults shelf.new;
-          absences_before = S.absences shelf.old;
-          absences_after = S.absences shelf.new;
-        })
-        (record {
-          out_before = O.faults out.old;
-          out_after = O.faults out.new;
-          err_before = E.faults err.old;
-          err_after = E.faults err.new;
-          shelf_before = S.write_faults shelf.old;
-          shelf_after = S.write_faults shelf.new;
-        }) }
-    ensures spoken { Spoken result (record {
-      files_before = S.files shelf.old;
-      files_after = S.files shelf.new;
-      out_before = O.taken out.old;
-      out_after = O.taken out.new;
-      err_before = E.taken err.old;
-      err_after = E.taken err.new;
-      err_faults_before = E.faults err.old;
-      err_faults_after = E.faults err.new;
-      board_before = board.old;
-      board_after = board.new;
-    }) }
+        (counts (S.read_faults shelf.old) (S.absences shelf.old) (S.read_faults shelf.new) (S.absences shelf.new))
+        (write_faults (O.faults out.old) (E.faults err.old) (S.write_faults shelf.old)
+        (O.faults out.new) (E.faults err.new) (S.write_faults shelf.new)) }
+    ensures spoken { Spoken result
+        (devices (S.files shelf.old) (O.taken out.old) (E.taken err.old) (E.faults err.old) board.old
+        (S.files shelf.new) (O.taken out.new) (E.taken err.new) (E.faults err.new) board.new) }
     ensures usage { EndsUsage result (command_of words.items) }
     ensures statuses { (result ≤ 7) × (result ≢ 1) }
 
     // `as` writes no output and no board, and no other command changes the shelf.
     ensures keeps { Keeps (is_storing (command_of words.items))
-        (record {
-          files_before = S.files shelf.old;
-          files_after = S.files shelf.new;
-          out_before = O.taken out.old;
-          out_after = O.taken out.new;
-          err_before = E.taken err.old;
-          err_after = E.taken err.new;
-          err_faults_before = E.faults err.old;
-          err_faults_after = E.faults err.new;
-          board_before = board.old;
-          board_after = board.new;
-        })
-        (record {
-          out_before = O.faults out.old;
-          out_after = O.faults out.new;
-          err_before = E.faults err.old;
-          err_after = E.faults err.new;
-          shelf_before = S.write_faults shelf.old;
-          shelf_after = S.write_faults shelf.new;
-        }) }
+        (devices (S.files shelf.old) (O.taken out.old) (E.taken err.old) (E.faults err.old) board.old
+        (S.files shelf.new) (O.taken out.new) (E.taken err.new) (E.faults err.new) board.new)
+        (write_faults (O.faults out.old) (E.faults err.old) (S.write_faults shelf.old)
+        (O.faults out.new) (E.faults err.new) (S.write_faults shelf.new)) }
 {
     match prepare(alloc, &words, shelf, board) {
         Ok(ready) => finish(alloc, ready, shelf, out, err, board),
@@ -130,60 +85,21 @@ fn finish<S: Shelf, O: Sink, E: Sink>(
     board: &mut Board,
 ) -> u8
     requires { IsCarried board.old ready }
-    ensures ends { Ends (done_view ready board.old) result (record {
-      files_before = S.files shelf.old;
-      files_after = S.files shelf.new;
-      out_before = O.taken out.old;
-      out_after = O.taken out.new;
-      err_before = E.taken err.old;
-      err_after = E.taken err.new;
-      err_faults_before = E.faults err.old;
-      err_faults_after = E.faults err.new;
-      board_before = board.old;
-      board_after = board.new;
-    }) }
-    ensures spoken { Spoken result (record {
-      files_before = S.files shelf.old;
-      files_after = S.files shelf.new;
-      out_before = O.taken out.old;
-      out_after = O.taken out.new;
-      err_before = E.taken err.old;
-      err_after = E.taken err.new;
-      err_faults_before = E.faults err.old;
-      err_faults_after = E.faults err.new;
-      board_before = board.old;
-      board_after = board.new;
-    }) }
-    ensures fault { result ≡ 6 → ShowsFault (is_store ready) (record {
-      out_before = O.faults out.old;
-      out_after = O.faults out.new;
-      err_before = E.faults err.old;
-      err_after = E.faults err.new;
-      shelf_before = S.write_faults shelf.old;
-      shelf_after = S.write_faults shelf.new;
-    }) }
+    ensures ends { Ends (done_view ready board.old) result
+        (devices (S.files shelf.old) (O.taken out.old) (E.taken err.old) (E.faults err.old) board.old
+        (S.files shelf.new) (O.taken out.new) (E.taken err.new) (E.faults err.new) board.new) }
+    ensures spoken { Spoken result
+        (devices (S.files shelf.old) (O.taken out.old) (E.taken err.old) (E.faults err.old) board.old
+        (S.files shelf.new) (O.taken out.new) (E.taken err.new) (E.faults err.new) board.new) }
+    ensures fault { result ≡ 6 → ShowsFault (is_store ready)
+        (write_faults (O.faults out.old) (E.faults err.old) (S.write_faults shelf.old)
+        (O.faults out.new) (E.faults err.new) (S.write_faults shelf.new)) }
     ensures statuses { (result ≡ 0) ⊎ ((result ≡ 6) ⊎ (result ≡ 7)) }
     ensures keeps { Keeps (is_store ready)
-        (record {
-          files_before = S.files shelf.old;
-          files_after = S.files shelf.new;
-          out_before = O.taken out.old;
-          out_after = O.taken out.new;
-          err_before = E.taken err.old;
-          err_after = E.taken err.new;
-          err_faults_before = E.faults err.old;
-          err_faults_after = E.faults err.new;
-          board_before = board.old;
-          board_after = board.new;
-        })
-        (record {
-          out_before = O.faults out.old;
-          out_after = O.faults out.new;
-          err_before = E.faults err.old;
-          err_after = E.faults err.new;
-          shelf_before = S.write_faults shelf.old;
-          shelf_after = S.write_faults shelf.new;
-        }) }
+        (devices (S.files shelf.old) (O.taken out.old) (E.taken err.old) (E.faults err.old) board.old
+        (S.files shelf.new) (O.taken out.new) (E.taken err.new) (E.faults err.new) board.new)
+        (write_faults (O.faults out.old) (E.faults err.old) (S.write_faults shelf.old)
+        (O.faults out.new) (E.faults err.new) (S.write_faults shelf.new)) }
 {
     match carry_out(alloc, ready, shelf, out, board) {
         Ok(()) => 0,
@@ -203,12 +119,8 @@ fn prepare<S: Shelf>(
     ensures gives { (told : Files) → S.files shelf.old ≡ Some told
         → Gives (λ ready. done_view ready board.now) result (result_of (command_of words.now) told board.now) (fetched_by (command_of words.now) told) }
     ensures usage { TellsUsage result (command_of words.now) }
-    ensures cause { IfErr result (λ stop. HasCause stop (record {
-      faults_before = S.read_faults shelf.old;
-      faults_after = S.read_faults shelf.new;
-      absences_before = S.absences shelf.old;
-      absences_after = S.absences shelf.new;
-    })) }
+    ensures cause { IfErr result (λ stop. HasCause stop
+        (counts (S.read_faults shelf.old) (S.absences shelf.old) (S.read_faults shelf.new) (S.absences shelf.new))) }
     ensures carried { IfOk result (IsCarried board.now) }
     ensures kind { IfOk result (λ ready. is_store ready ≡ is_storing (command_of words.now)) }
     ensures files_stay { S.files shelf.new ≡ S.files shelf.old }
@@ -227,12 +139,8 @@ fn prepare_command<S: Shelf>(
 ) -> Result<Ready, Stop>
     ensures gives { (told : Files) → S.files shelf.old ≡ Some told
         → Gives (λ ready. done_view ready board.now) result (done_of command told board.now) (fetched_by (Some command) told) }
-    ensures cause { IfErr result (λ stop. HasCause stop (record {
-      faults_before = S.read_faults shelf.old;
-      faults_after = S.read_faults shelf.new;
-      absences_before = S.absences shelf.old;
-      absences_after = S.absences shelf.new;
-    })) }
+    ensures cause { IfErr result (λ stop. HasCause stop
+        (counts (S.read_faults shelf.old) (S.absences shelf.old) (S.read_faults shelf.new) (S.absences shelf.new))) }
     ensures carried { IfOk result (IsCarried board.now) }
     ensures kind { IfOk result (λ ready. is_store ready ≡ is_storing (Some command)) }
     ensures no_usage { IfErr result IsNoUsage }
@@ -259,12 +167,8 @@ fn prepare_assembling<S: Shelf>(
 ) -> Result<Ready, Stop>
     ensures gives { (told : Files) → S.files shelf.old ≡ Some told
         → Gives (λ ready. done_view ready board.now) result (done_of (assemble_word input.now output) told board.now) (fetched_by (Some (assemble_word input.now output)) told) }
-    ensures cause { IfErr result (λ stop. HasCause stop (record {
-      faults_before = S.read_faults shelf.old;
-      faults_after = S.read_faults shelf.new;
-      absences_before = S.absences shelf.old;
-      absences_after = S.absences shelf.new;
-    })) }
+    ensures cause { IfErr result (λ stop. HasCause stop
+        (counts (S.read_faults shelf.old) (S.absences shelf.old) (S.read_faults shelf.new) (S.absences shelf.new))) }
     ensures carried { IfOk result (IsCarried board.now) }
     ensures kind { IfOk result (λ ready. is_store ready ≡ true) }
     ensures no_usage { IfErr result IsNoUsage }
@@ -285,12 +189,8 @@ fn prepare_map<S: Shelf>(
 ) -> Result<Ready, Stop>
     ensures gives { (told : Files) → S.files shelf.old ≡ Some told
         → Gives (λ ready. done_view ready board.now) result (done_of (map_word plan.now) told board.now) (fetched_by (Some (map_word plan.now)) told) }
-    ensures cause { IfErr result (λ stop. HasCause stop (record {
-      faults_before = S.read_faults shelf.old;
-      faults_after = S.read_faults shelf.new;
-      absences_before = S.absences shelf.old;
-      absences_after = S.absences shelf.new;
-    })) }
+    ensures cause { IfErr result (λ stop. HasCause stop
+        (counts (S.read_faults shelf.old) (S.absences shelf.old) (S.read_faults shelf.new) (S.absences shelf.new))) }
     ensures carried { IfOk result (IsCarried board.now) }
     ensures kind { IfOk result (λ ready. is_store ready ≡ false) }
     ensures no_usage { IfErr result IsNoUsage }
@@ -311,12 +211,8 @@ fn prepare_run<S: Shelf>(
 ) -> Result<Ready, Stop>
     ensures gives { (told : Files) → S.files shelf.old ≡ Some told
         → Gives (λ ready. done_view ready board.now) result (done_of (run_word plan.now) told board.now) (fetched_by (Some (run_word plan.now)) told) }
-    ensures cause { IfErr result (λ stop. HasCause stop (record {
-      faults_before = S.read_faults shelf.old;
-      faults_after = S.read_faults shelf.new;
-      absences_before = S.absences shelf.old;
-      absences_after = S.absences shelf.new;
-    })) }
+    ensures cause { IfErr result (λ stop. HasCause stop
+        (counts (S.read_faults shelf.old) (S.absences shelf.old) (S.read_faults shelf.new) (S.absences shelf.new))) }
     ensures carried { IfOk result (IsCarried board.now) }
     ensures kind { IfOk result (λ ready. is_store ready ≡ false) }
     ensures no_usage { IfErr result IsNoUsage }
