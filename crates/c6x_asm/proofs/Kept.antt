@@ -1,21 +1,19 @@
 -- What the limits of an object say of its sections and names.
-use Rattle.std.proofs.Common.{◌≡◌, ℕ, ◌+◌, ◌^◌, ◌<◌, ◌≤◌, false, List, [], ◌∷◌, ◌++◌, Ok, length, subst, arith}
-use Rattle.std.specs.Prelude.{count_by}
+use Rattle.std.proofs.Common.{◌≡◌, ℕ, ◌+◌, ◌^◌, ◌<◌, false, List, ◌++◌, Ok, length, subst, arith}
 use Rattle.c6x_elf.specs.Form.{IsTidy}
 use Rattle.c6x_asm_object.specs.declared.object.Object.{Object}
 use Rattle.c6x_asm_object.specs.declared.part.Part.{Part}
 use Rattle.c6x_asm_object.specs.declared.symbol.Symbol.{Symbol}
 use Rattle.c6x_asm_object.specs.Symbols.{names_total}
-use Rattle.c6x_asm_form.specs.Filing.{Named, file_of, has_entries, named_strtab, named_symtab, sections_of, symtab_of}
+use Rattle.c6x_asm_form.specs.Filing.{file_of, named_strtab, sections_of}
 use Rattle.c6x_asm_form.specs.Headers.{table_section}
 use Rattle.c6x_asm_form.specs.Limits.{is_large}
 use Rattle.c6x_asm_form.proofs.Limited.{IsLimited, IsShort, limited, or_later, short_from}
 use Rattle.c6x_asm_form.proofs.Lists.{Each, each_back}
-use Rattle.c6x_asm_form.proofs.Places.{arranged, every, length-sections_all, of_parts, of_relas, of_tables, sections_all}
+use Rattle.c6x_asm_form.proofs.Places.{arranged, every, length-sections_all, of_parts, of_relas, of_tables}
 use Rattle.c6x_asm_form.proofs.Tidy.{tidy}
 use Rattle.c6x_asm_limits.proofs.Lengths.{length-name_table}
 use Rattle.c6x_asm_steps.specs.States.{state_of}
-use Rattle.c6x_asm_text.specs.Kept.{IsKept}
 use Rattle.c6x_asm_text.specs.Reading.{read_of}
 use Rattle.c6x_asm_text.proofs.Kept.{read_kept}
 

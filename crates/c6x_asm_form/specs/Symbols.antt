@@ -1,6 +1,6 @@
 -- The symbol table of an object and its names (gABI chapter 4, "Symbol Table" and "String Table"): the null symbol, the
 -- section symbols, the local names, the others; the order inside a group is that of first appearance.
-use Rattle.std.specs.Prelude.{ℕ, zero, suc, ◌+◌, ◌*◌, ◌%◌, false, if◌then◌else◌, None, List, [], ◌∷◌, ◌++◌, length, map, take, filter, count_by}
+use Rattle.std.specs.Prelude.{ℕ, zero, suc, ◌+◌, ◌*◌, ◌%◌, if◌then◌else◌, List, [], ◌∷◌, ◌++◌, length, map, take, filter, count_by}
 use Rattle.c6x_asm_object.specs.Symbols.{symbol_name, symbol_of}
 use Rattle.std.specs.Int.{to_le_bytes, w16, w32}
 use Rattle.std.specs.List.{range_with_len}

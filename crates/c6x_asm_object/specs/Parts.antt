@@ -4,7 +4,7 @@ use Rattle.std.specs.Int.{to_le_bytes, w32}
 use Rattle.c6x_asm_object.specs.declared.entry.Entry.{Entry}
 use Rattle.c6x_asm_object.specs.declared.part.Part.{Part}
 use Rattle.c6x_asm_object.specs.declared.part_kind.PartKind.{PartKind}
-use Rattle.c6x_asm_object.specs.declared.part_kind.PartKind.TheVariants.{Text, Constant, Zero, Data}
+use Rattle.c6x_asm_object.specs.declared.part_kind.PartKind.TheVariants.{Zero, Data}
 use Rattle.c6x_asm_object.specs.declared.slot.Slot.{Slot}
 use Rattle.c6x_asm_object.specs.Kinds.{first_align}
 
