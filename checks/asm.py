@@ -328,6 +328,16 @@ def mutated(rng, text):
     return rng.choice([text[:at] + byte + text[at:], text[:at] + text[at + 1:], text[:at] + byte + text[at + 1:]])
 
 
+def growing(seed):
+    """Sections of mixed alignments that grow in turn until their object passes the limit of a file."""
+    rng = random.Random(seed)
+    lines = [f'.sect "s{n}"\n.align {1 << rng.randrange(13)}\n' for n in range(300)]
+    for _ in range(5000):
+        lines.append(f'.sect "s{rng.randrange(300)}"\n')
+        lines.append(rng.choice([f".space {rng.randrange(9000)}\n", ".byte 1\n", ".word x\n", f".align {1 << rng.randrange(13)}\n"]))
+    return "".join(lines)
+
+
 def large(rng, number):
     """Texts at and just past the limits."""
     cases = [
@@ -353,6 +363,7 @@ def large(rng, number):
         '.sect "d"\n' + "".join(".word " + ",".join(["x"] * 100) + "\n" for _ in range(874)),
         "".join(f'.sect "s{n}"\n.align 4096\n.byte 1\n' for n in range(1023)),
         "".join(f'.sect "s{n}"\n.align 4096\n.byte 1\n' for n in range(1000)),
+        *(growing(seed) for seed in range(6)),
     ]
     return cases[number % len(cases)] if number < len(cases) else None
 
