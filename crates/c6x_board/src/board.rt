@@ -4,8 +4,7 @@ ghost use Rattle.c6x_spec.specs.Memory.{Memory, CanStart, IsOnMemory, written, b
 ghost use Rattle.c6x_board.specs.Written.{IsWritten};
 ghost use Rattle.c6x_spec.specs.Numbers.{half_at, word_at};
 
-use crate::splices::{clear_at, put_at};
-use byteorder::{ByteOrder, LittleEndian};
+use crate::splices::{byte_held, clear_held, half_held, put_at, reach, word_held};
 use std::alloc::{AllocError, Global};
 use std::marker::Model;
 
@@ -16,18 +15,21 @@ use std::marker::Model;
 #[derive(Debug, Drop)]
 pub struct Board {
     base: u32,
+    len: u32,
     bytes: Vec<u8>,
 }
 
 impl Model for Board {
-    ghost use Rattle.std.specs.Prelude.{vec_len};
+    ghost use Rattle.std.specs.Prelude.{◌++◌, ◌-◌, ◌≤◌, replicate, vec_len, vec_capacity};
     ghost use Rattle.c6x_spec.specs.Memory.{Memory, CanStart};
 
     ghost Value = { Memory };
 
-    ghost view = { λ b. record { base = b.base; bytes = b.bytes.items } };
+    // The bytes behind those held are zeros that no write has reached yet.
+    ghost view = { λ b. record { base = b.base; bytes = b.bytes.items ++ replicate (b.len - vec_len b.bytes) 0 } };
 
-    ghost invariant = { λ b. CanStart b.base (vec_len b.bytes) };
+    // The room for all bytes is reserved, so that no write allocates.
+    ghost invariant = { λ b. CanStart b.base b.len × (vec_len b.bytes ≤ b.len) × (b.len ≤ vec_capacity b.bytes) };
 }
 
 impl Board {
@@ -36,8 +38,8 @@ impl Board {
         requires { CanStart base len }
         ensures { IfOk result (λ board. board ≡ record { base = base; bytes = replicate len 0 }) }
     {
-        let bytes = vec![in alloc; 0; len as usize]?;
-        Ok(Board { base, bytes })
+        let bytes = Vec::with_capacity(alloc, len as usize)?;
+        Ok(Board { base, len, bytes })
     }
 
     /// The address of the first byte.
@@ -52,7 +54,7 @@ impl Board {
         ensures value { result ≡ length self.now.bytes }
         ensures whole { CanStart self.now.base (length self.now.bytes) }
     {
-        self.bytes.len() as u32
+        self.len
     }
 
     /// The byte at this address.
@@ -60,25 +62,23 @@ impl Board {
         requires { IsOnMemory self.now at 1 }
         ensures { result ≡ byte_in self.now at }
     {
-        self.bytes[self.place(at)]
+        byte_held(&self.bytes, self.place(at))
     }
 
     /// The number of the two bytes from this address on.
-    #[tactic(auto, unfolding(c6x_spec::specs::Numbers::half_at))]
     pub fn read16(&self, at: u32) -> u16
         requires { IsOnMemory self.now at 2 }
         ensures { result ≡ half_at false self.now.bytes (at - self.now.base) }
     {
-        LittleEndian::read_u16(&self.bytes[self.place(at)..])
+        half_held(&self.bytes, self.place(at))
     }
 
     /// The number of the four bytes from this address on.
-    #[tactic(auto, unfolding(c6x_spec::specs::Numbers::word_at))]
     pub fn read32(&self, at: u32) -> u32
         requires { IsOnMemory self.now at 4 }
         ensures { result ≡ word_at false self.now.bytes (at - self.now.base) }
     {
-        LittleEndian::read_u32(&self.bytes[self.place(at)..])
+        word_held(&self.bytes, self.place(at))
     }
 
     /// Writes one byte.
@@ -115,6 +115,7 @@ impl Board {
         ensures changes { IsWritten self.old at bytes.now self.new }
     {
         let from = self.place(at);
+        reach(&mut self.bytes, from + bytes.len());
         put_at(&mut self.bytes, from, bytes);
     }
 
@@ -125,7 +126,7 @@ impl Board {
         ensures changes { IsWritten self.old at (replicate len 0) self.new }
     {
         let from = self.place(at);
-        clear_at(&mut self.bytes, from, len as usize);
+        clear_held(&mut self.bytes, from, len as usize);
     }
 
     /// The position of an address among the bytes.
@@ -141,7 +142,8 @@ impl Board {
 mod tests {
     use super::*;
 
-    // Memory is ample here, so `new` answers a board. Numbers come back as they were written, and their neighbours stay.
+    // Memory is ample here, so `new` answers a board. Numbers come back as they were written, their neighbours stay, and
+    // what no write has reached is zero.
     #[test]
     fn reads_what_was_written(rt: HostRuntime) -> Result<(), AllocError> {
         let mut board = Board::new(rt.alloc(), 0x8000_0000, 32)?;
@@ -166,6 +168,23 @@ mod tests {
         );
         assert_eq!(rt; board.read32(0x8000_0010), 0xAA00_0000);
         assert_eq!(rt; board.read32(0x8000_001C), 0x7FAA_AAAA);
+        Ok(())
+    }
+
+    // The bytes behind the last one that was written are held nowhere, and read as zero.
+    #[test]
+    fn reads_behind_what_was_written(rt: HostRuntime) -> Result<(), AllocError> {
+        let mut board = Board::new(rt.alloc(), 0x8000_0000, 32)?;
+        board.write8(0x8000_0004, 0xAB);
+        assert_eq!(rt;
+            (board.read16(0x8000_0004), board.read32(0x8000_0002)),
+            (0xAB, 0x00AB_0000)
+        );
+        board.zero(0x8000_0004, 12);
+        assert_eq!(rt; (board.read8(0x8000_0004), board.len()), (0, 32));
+        board.write16(0x8000_001E, 0xBEEF);
+        assert_eq!(rt; board.read32(0x8000_001C), 0xBEEF_0000);
+        assert_eq!(rt; board.read32(0x8000_0010), 0);
         Ok(())
     }
 }
