@@ -4,8 +4,8 @@
 Usage: checks/isa.py MODEL [COUNT [SEED]]
 
 MODEL is the folder of the model's `isa.py`, which has `decode`, `encode`, `effects` and `split`. COUNT is
-how many words to try, at least 200,000 if it is not given. The program `c6x_words` has to be built first:
-`rt run` in crates/c6x_words.
+how many words to try, at least 200,000 if it is not given. The program `c6x_isa_probe` has to be built first:
+`rt run` in crates/c6x_isa_probe.
 """
 import random
 import subprocess
@@ -13,7 +13,7 @@ import sys
 from pathlib import Path
 
 ROOT = Path(__file__).resolve().parent.parent
-PROGRAM = ROOT / "crates" / "c6x_words" / "out" / "c6x_words"
+PROGRAM = ROOT / "crates" / "c6x_isa_probe" / "out" / "c6x_isa_probe"
 MASK = 0xFFFFFFFF
 
 
@@ -143,7 +143,7 @@ def main():
         print("checks/isa.py: no model is given, so nothing is compared")
         return 0
     if not PROGRAM.exists():
-        print(f"checks/isa.py: {PROGRAM} is not built: `rt run` in crates/c6x_words builds it")
+        print(f"checks/isa.py: {PROGRAM} is not built: `rt run` in crates/c6x_isa_probe builds it")
         return 1
     sys.path.insert(0, sys.argv[1])
     import isa as model
