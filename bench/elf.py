@@ -3,7 +3,7 @@
 
     bench/elf.py [PROGRAM]
 
-PROGRAM is the built program `c6x_elf_answers`, by default crates/c6x_elf_answers/out/c6x_elf_answers: it
+PROGRAM is the built program `c6x_elf_probe`, by default crates/c6x_elf_probe/out/c6x_elf_probe: it
 reads each file, prints its values and writes it again. Times are processor time. The time without the file's own work is that of as
 many hexadecimal digits that are no file. Where `readelf` is installed, the time of `readelf -S -W` over
 the same file stands beside it; readelf reads the headers alone.
@@ -18,7 +18,7 @@ import tempfile
 
 HERE = os.path.dirname(os.path.abspath(__file__))
 PROGRAM = sys.argv[1] if len(sys.argv) > 1 else os.path.join(
-    HERE, "..", "crates", "c6x_elf_answers", "out", "c6x_elf_answers")
+    HERE, "..", "crates", "c6x_elf_probe", "out", "c6x_elf_probe")
 SECTIONS = 4_096
 ROUNDS = 5
 

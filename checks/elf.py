@@ -4,7 +4,7 @@
     checks/elf.py MODEL [PROGRAM] [CASES]
 
 MODEL is the folder of a reference model with the modules `elf`, `forge`, `asm` and `command`; PROGRAM is
-the built program `c6x_elf_answers`, by default crates/c6x_elf_answers/out/c6x_elf_answers. Objects and
+the built program `c6x_elf_probe`, by default crates/c6x_elf_probe/out/c6x_elf_probe. Objects and
 linked modules of the model are changed in one to four bytes, cut or extended, and each answer, the place
 of a broken rule, the values that were read and the written form of a tidy file are compared.
 """
@@ -18,7 +18,7 @@ if len(sys.argv) < 2:
 MODEL = sys.argv[1]
 HERE = os.path.dirname(os.path.abspath(__file__))
 PROGRAM = sys.argv[2] if len(sys.argv) > 2 else os.path.join(
-    HERE, "..", "crates", "c6x_elf_answers", "out", "c6x_elf_answers")
+    HERE, "..", "crates", "c6x_elf_probe", "out", "c6x_elf_probe")
 CASES = int(sys.argv[3]) if len(sys.argv) > 3 else 20_000
 BATCH = 2_000
 

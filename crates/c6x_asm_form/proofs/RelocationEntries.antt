@@ -6,12 +6,12 @@ use Rattle.std.specs.List.{range_with_len}
 use Rattle.std.proofs.lemmas.Bool.Decides.{nat_tests}
 use Rattle.std.proofs.lemmas.List.FromFn.{get_or-map-range_with_len}
 use Rattle.c6x_spec.specs.Numbers.{word_at}
-use Rattle.c6x_elf_heads.specs.Rules.{first_along}
-use Rattle.c6x_elf_heads.specs.declared.elf_rule.ElfRule.TheVariants.{Index}
-use Rattle.c6x_elf_heads.specs.declared.section_head.SectionHead.{SectionHead}
-use Rattle.c6x_elf_image.specs.Laid.{Holds}
-use Rattle.c6x_elf_image.proofs.Holdings.{holds_all, holds_left, holds_right}
-use Rattle.c6x_elf_image.proofs.Passing.{must_is}
+use Rattle.c6x_elf_headers.specs.Rules.{first_along}
+use Rattle.c6x_elf_headers.specs.declared.elf_rule.ElfRule.TheVariants.{Index}
+use Rattle.c6x_elf_headers.specs.declared.section_head.SectionHead.{SectionHead}
+use Rattle.c6x_elf_layout.specs.Laid.{Holds}
+use Rattle.c6x_elf_layout.proofs.Holdings.{holds_all, holds_left, holds_right}
+use Rattle.c6x_elf_layout.proofs.Passing.{must_is}
 use Rattle.c6x_elf.specs.Entries.{rela_refusal, relas_refusal, symbols_in}
 use Rattle.c6x_elf.specs.declared.section.Section.{Section}
 use Rattle.c6x_elf.proofs.Moves.{both_none}

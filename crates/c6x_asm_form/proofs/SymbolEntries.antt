@@ -6,12 +6,12 @@ use Rattle.std.proofs.lemmas.Bool.Decides.{nat_tests}
 use Rattle.std.specs.Prelude.{filter}
 use Rattle.std.specs.List.{range_with_len}
 use Rattle.c6x_spec.specs.Numbers.{half_at, word_at}
-use Rattle.c6x_elf_heads.specs.Rules.{first_along, must}
-use Rattle.c6x_elf_heads.specs.declared.elf_rule.ElfRule.TheVariants.{Index}
-use Rattle.c6x_elf_heads.specs.declared.section_head.SectionHead.{SectionHead}
-use Rattle.c6x_elf_image.specs.Laid.{Holds}
-use Rattle.c6x_elf_image.proofs.Holdings.{holds_left, holds_right, holds_all}
-use Rattle.c6x_elf_image.proofs.Passing.{must_is}
+use Rattle.c6x_elf_headers.specs.Rules.{first_along, must}
+use Rattle.c6x_elf_headers.specs.declared.elf_rule.ElfRule.TheVariants.{Index}
+use Rattle.c6x_elf_headers.specs.declared.section_head.SectionHead.{SectionHead}
+use Rattle.c6x_elf_layout.specs.Laid.{Holds}
+use Rattle.c6x_elf_layout.proofs.Holdings.{holds_left, holds_right, holds_all}
+use Rattle.c6x_elf_layout.proofs.Passing.{must_is}
 use Rattle.c6x_elf.specs.Entries.{is_section_number, name_refusal, symbol_refusal, symbols_refusal, text_of}
 use Rattle.c6x_elf.specs.declared.section.Section.{Section}
 use Rattle.c6x_elf.proofs.Moves.{both_none}

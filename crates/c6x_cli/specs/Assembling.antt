@@ -4,7 +4,7 @@ use Rattle.c6x_spec.specs.Results.{◌>>=◌}
 use Rattle.c6x_asm.specs.Objects.{assembled}
 use Rattle.c6x_asm_text.specs.declared.broken.Broken.{Broken}
 use Rattle.c6x_elf.specs.Writing.{written}
-use Rattle.c6x_elf_heads.specs.declared.elf_rule.ElfRule.TheVariants.{Large}
+use Rattle.c6x_elf_headers.specs.declared.elf_rule.ElfRule.TheVariants.{Large}
 use Rattle.c6x_cli.specs.declared.cause.Cause.{Cause}
 use Rattle.c6x_cli.specs.declared.cause.Cause.TheVariants.{Refused}
 use Rattle.c6x_cli.specs.declared.cause.Refusal.{Refusal}

@@ -5,12 +5,12 @@ use Rattle.std.proofs.lemmas.List.{length_push, nil_from_length}
 use Rattle.std.proofs.lemmas.List.Sums.{sum_by-cons}
 use Rattle.std.proofs.lemmas.Slice.Eq.{bytes_eq-Decides}
 use Rattle.std.proofs.lemmas.Bool.Decides.{nat_tests}
-use Rattle.c6x_elf_heads.specs.Rules.{along_both, along_parts, first_along, must}
-use Rattle.c6x_elf_heads.specs.declared.elf_rule.ElfRule.TheVariants.{Short, Large}
-use Rattle.c6x_elf_image.specs.HeadRows.{SectionsStand, SegmentsStand}
-use Rattle.c6x_elf_image.specs.Laid.{AllHeld, Holds, Part}
-use Rattle.c6x_elf_image.proofs.Holdings.{holds_inner, holds_slice, holds_within}
-use Rattle.c6x_elf_image.proofs.Passing.{must_is}
+use Rattle.c6x_elf_headers.specs.Rules.{along_both, along_parts, first_along, must}
+use Rattle.c6x_elf_headers.specs.declared.elf_rule.ElfRule.TheVariants.{Short, Large}
+use Rattle.c6x_elf_layout.specs.HeadRows.{SectionsStand, SegmentsStand}
+use Rattle.c6x_elf_layout.specs.Laid.{AllHeld, Holds, Part}
+use Rattle.c6x_elf_layout.proofs.Holdings.{holds_inner, holds_slice, holds_within}
+use Rattle.c6x_elf_layout.proofs.Passing.{must_is}
 use Rattle.c6x_elf.specs.Entries.{named_refusal}
 use Rattle.c6x_elf.specs.Form.{IsSized, own_head, section_length, segment_length}
 use Rattle.c6x_elf.specs.Parts.{fields_refusal, has_bytes, is_within, part_refusal, section_of, section_refusal, section_size, segment_of, segment_refusal, segment_size}

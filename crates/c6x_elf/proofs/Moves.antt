@@ -1,8 +1,8 @@
 use Rattle.std.proofs.Common.{◌≡◌, ℕ, ◌+◌, ◌==◌, Bool, true, false, cond, List, [], ◌∷◌, Option, None, refl}
-use Rattle.c6x_elf_heads.specs.Rules.{Refusal, ◌<|>◌, first_along, must}
-use Rattle.c6x_elf_heads.specs.declared.elf_rule.ElfRule.{ElfRule}
-use Rattle.c6x_elf_heads.specs.declared.elf_rule.ElfRule.TheVariants.{EntrySize, Index, NoNul}
-use Rattle.c6x_elf_heads.specs.declared.section_head.SectionHead.{SectionHead}
+use Rattle.c6x_elf_headers.specs.Rules.{Refusal, ◌<|>◌, first_along, must}
+use Rattle.c6x_elf_headers.specs.declared.elf_rule.ElfRule.{ElfRule}
+use Rattle.c6x_elf_headers.specs.declared.elf_rule.ElfRule.TheVariants.{EntrySize, Index, NoNul}
+use Rattle.c6x_elf_headers.specs.declared.section_head.SectionHead.{SectionHead}
 use Rattle.c6x_elf.specs.Entries.{entries_refusal, name_refusal, named_refusal, own_name_refusal, rela_refusal, relas_refusal, symbol_refusal, symbols_refusal, text_of}
 use Rattle.c6x_elf.specs.Parts.{fields_refusal, has_entries, has_target, is_linked, is_relocation_table, is_symbol_table}
 use Rattle.c6x_elf.specs.declared.section.Section.{Section}

@@ -1,11 +1,11 @@
 use Rattle.std.proofs.Common.{◌≡◌, ℕ, ◌+◌, ◌≤◌, Bool, true, false, List, [], ◌∷◌, Option, None, Some, length, take, drop, map, refl, sym, arith}
 use Rattle.std.proofs.lemmas.List.{length-map, length-take, length-drop}
 use Rattle.std.proofs.lemmas.Bool.Decides.{nat_tests}
-use Rattle.c6x_elf_heads.specs.Rules.{Refusal, ◌<|>◌, along_parts, must}
-use Rattle.c6x_elf_heads.specs.declared.elf_rule.ElfRule.{ElfRule}
-use Rattle.c6x_elf_heads.specs.declared.elf_rule.ElfRule.TheVariants.{Short}
-use Rattle.c6x_elf_heads.specs.declared.section_head.SectionHead.{SectionHead}
-use Rattle.c6x_elf_heads.specs.declared.file_head.FileHead.{FileHead}
+use Rattle.c6x_elf_headers.specs.Rules.{Refusal, ◌<|>◌, along_parts, must}
+use Rattle.c6x_elf_headers.specs.declared.elf_rule.ElfRule.{ElfRule}
+use Rattle.c6x_elf_headers.specs.declared.elf_rule.ElfRule.TheVariants.{Short}
+use Rattle.c6x_elf_headers.specs.declared.section_head.SectionHead.{SectionHead}
+use Rattle.c6x_elf_headers.specs.declared.file_head.FileHead.{FileHead}
 use Rattle.c6x_elf.specs.Entries.{ArePlaced, IsPlaced}
 use Rattle.c6x_elf.specs.Parts.{fields_refusal, is_within, part_refusal, section_of, section_refusal, section_size}
 use Rattle.c6x_elf.specs.Reading.{section_heads_of, sections_of, sections_refusal, segments_total}

@@ -1,10 +1,10 @@
 use Rattle.std.proofs.Common.{◌≡◌, ℕ, cond, ◌+◌, ◌*◌, ◌<◌, ◌≤◌, Bool, true, false, List, [], ◌∷◌, ◌++◌, length, drop, get_or, refl, sym, ap, ◌∙◌, append_assoc, subst}
 use Rattle.std.proofs.lemmas.List.{drop_more}
-use Rattle.c6x_elf_image.specs.HeadRows.{SectionsFit, SegmentsFit, section_rows, section_words, segment_rows, segment_words}
-use Rattle.c6x_elf_image.specs.Laid.{InOrder, Part, laid}
-use Rattle.c6x_elf_image.specs.Rows.{AreWords, word_row}
-use Rattle.c6x_elf_heads.specs.declared.section_head.SectionHead.{SectionHead}
-use Rattle.c6x_elf_heads.specs.declared.segment_head.SegmentHead.{SegmentHead}
+use Rattle.c6x_elf_layout.specs.HeadRows.{SectionsFit, SegmentsFit, section_rows, section_words, segment_rows, segment_words}
+use Rattle.c6x_elf_layout.specs.Laid.{InOrder, Part, laid}
+use Rattle.c6x_elf_layout.specs.Rows.{AreWords, word_row}
+use Rattle.c6x_elf_headers.specs.declared.section_head.SectionHead.{SectionHead}
+use Rattle.c6x_elf_headers.specs.declared.segment_head.SegmentHead.{SegmentHead}
 use Rattle.c6x_elf.specs.Parts.{has_bytes}
 use Rattle.c6x_elf.specs.Writing.{AreWithin, section_head_at, section_heads_at, section_parts, segment_head_at, segment_heads_at, segment_parts, with_section, with_segment}
 use Rattle.c6x_elf.specs.declared.section.Section.{Section}

@@ -4,13 +4,13 @@ use Rattle.std.proofs.lemmas.List.{length-drop, length-map, length-take}
 use Rattle.std.proofs.lemmas.List.FromFn.{length-map-range_with_len}
 use Rattle.std.proofs.lemmas.List.Sums.{sum_by-cons}
 use Rattle.std.proofs.lemmas.Bool.Decides.{nat_tests}
-use Rattle.c6x_elf_heads.specs.Header.{HeadKeeps, is_none_or_below}
-use Rattle.c6x_elf_heads.specs.Heads.{section_head, section_heads, segment_head, segment_heads}
-use Rattle.c6x_elf_heads.specs.Rules.{along_both, along_parts, first_along, must}
-use Rattle.c6x_elf_heads.specs.declared.elf_rule.ElfRule.TheVariants.{Short, Large}
-use Rattle.c6x_elf_heads.specs.declared.file_head.FileHead.{FileHead}
-use Rattle.c6x_elf_heads.specs.declared.section_head.SectionHead.{SectionHead}
-use Rattle.c6x_elf_heads.specs.declared.segment_head.SegmentHead.{SegmentHead}
+use Rattle.c6x_elf_headers.specs.Header.{HeadKeeps, is_none_or_below}
+use Rattle.c6x_elf_headers.specs.Heads.{section_head, section_heads, segment_head, segment_heads}
+use Rattle.c6x_elf_headers.specs.Rules.{along_both, along_parts, first_along, must}
+use Rattle.c6x_elf_headers.specs.declared.elf_rule.ElfRule.TheVariants.{Short, Large}
+use Rattle.c6x_elf_headers.specs.declared.file_head.FileHead.{FileHead}
+use Rattle.c6x_elf_headers.specs.declared.section_head.SectionHead.{SectionHead}
+use Rattle.c6x_elf_headers.specs.declared.segment_head.SegmentHead.{SegmentHead}
 use Rattle.c6x_elf.specs.Entries.{named_refusal}
 use Rattle.c6x_elf.specs.Form.{HasReadForm, IsSized, own_head, section_length, segment_length}
 use Rattle.c6x_elf.specs.Parts.{fields_refusal, is_within, part_refusal, section_of, section_refusal, section_size, segment_of, segment_refusal, segment_size}

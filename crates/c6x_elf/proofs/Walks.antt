@@ -1,8 +1,8 @@
 use Rattle.std.proofs.Common.{◌≡◌, ℕ, ◌+◌, ◌<◌, ◌≤◌, List, Option, None, length, drop, get_or, ap}
 use Rattle.std.proofs.lemmas.List.{drop_more, drop_all}
-use Rattle.c6x_elf_heads.specs.Rules.{Refusal, ◌<|>◌, along_parts}
-use Rattle.c6x_elf_heads.specs.declared.section_head.SectionHead.{SectionHead}
-use Rattle.c6x_elf_heads.specs.declared.segment_head.SegmentHead.{SegmentHead}
+use Rattle.c6x_elf_headers.specs.Rules.{Refusal, ◌<|>◌, along_parts}
+use Rattle.c6x_elf_headers.specs.declared.section_head.SectionHead.{SectionHead}
+use Rattle.c6x_elf_headers.specs.declared.segment_head.SegmentHead.{SegmentHead}
 use Rattle.c6x_elf.specs.Parts.{section_refusal, section_size, segment_refusal, segment_size}
 
 -- a walk along parts, one part on

@@ -2,19 +2,19 @@ use Rattle.std.proofs.Common.{◌≡◌, ℕ, ◌+◌, ◌*◌, ◌≤◌, ◌==
 use Rattle.std.proofs.lemmas.List.{nil_from_length}
 use Rattle.std.proofs.lemmas.Bool.Decides.{nat_tests}
 use Rattle.c6x_base.specs.Rounded.{rounded}
-use Rattle.c6x_elf_heads.specs.Header.{HeadKeeps, header_refusal}
-use Rattle.c6x_elf_heads.specs.Heads.{file_head, is_big, section_heads, segment_heads}
-use Rattle.c6x_elf_heads.specs.Rules.{along_both, along_parts, must}
-use Rattle.c6x_elf_heads.specs.declared.elf_rule.ElfRule.TheVariants.{Short}
-use Rattle.c6x_elf_heads.specs.declared.section_head.SectionHead.{SectionHead}
-use Rattle.c6x_elf_heads.specs.declared.segment_head.SegmentHead.{SegmentHead}
-use Rattle.c6x_elf_heads.proofs.Rows.{section_heads_none, segment_heads_none}
-use Rattle.c6x_elf_image.specs.HeadRows.{file_row, section_rows, segment_rows}
-use Rattle.c6x_elf_image.specs.Laid.{AllHeld, Holds}
-use Rattle.c6x_elf_image.proofs.HeadRows.{ReadsHead, file_held, file_read, sections_held as section_heads_held, segments_held as segment_heads_held}
-use Rattle.c6x_elf_image.proofs.Holdings.{holds_all, holds_left, holds_right, holds_within}
-use Rattle.c6x_elf_image.proofs.Layouts.{laid_held}
-use Rattle.c6x_elf_image.proofs.Passing.{header_passes, is_little, must_is}
+use Rattle.c6x_elf_headers.specs.Header.{HeadKeeps, header_refusal}
+use Rattle.c6x_elf_headers.specs.Heads.{file_head, is_big, section_heads, segment_heads}
+use Rattle.c6x_elf_headers.specs.Rules.{along_both, along_parts, must}
+use Rattle.c6x_elf_headers.specs.declared.elf_rule.ElfRule.TheVariants.{Short}
+use Rattle.c6x_elf_headers.specs.declared.section_head.SectionHead.{SectionHead}
+use Rattle.c6x_elf_headers.specs.declared.segment_head.SegmentHead.{SegmentHead}
+use Rattle.c6x_elf_headers.proofs.Rows.{section_heads_none, segment_heads_none}
+use Rattle.c6x_elf_layout.specs.HeadRows.{file_row, section_rows, segment_rows}
+use Rattle.c6x_elf_layout.specs.Laid.{AllHeld, Holds}
+use Rattle.c6x_elf_layout.proofs.HeadRows.{ReadsHead, file_held, file_read, sections_held as section_heads_held, segments_held as segment_heads_held}
+use Rattle.c6x_elf_layout.proofs.Holdings.{holds_all, holds_left, holds_right, holds_within}
+use Rattle.c6x_elf_layout.proofs.Layouts.{laid_held}
+use Rattle.c6x_elf_layout.proofs.Passing.{header_passes, is_little, must_is}
 use Rattle.c6x_elf.specs.Entries.{named_refusal}
 use Rattle.c6x_elf.specs.Form.{IsTidy, segment_length}
 use Rattle.c6x_elf.specs.Parts.{are_within, section_of, section_refusal, section_size, segment_of, segment_refusal, segment_size}

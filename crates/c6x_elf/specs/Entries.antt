@@ -2,9 +2,9 @@ use Rattle.std.specs.Prelude.{ℕ, zero, suc, ◌+◌, ◌*◌, ◌/◌, ◌≤�
 use Rattle.std.specs.List.{range_with_len}
 use Rattle.c6x_spec.specs.Numbers.{half_at, word_at}
 use Rattle.c6x_elf_entries.specs.Names.{name_of}
-use Rattle.c6x_elf_heads.specs.Rules.{Refusal, ◌<|>◌, first_along, must}
-use Rattle.c6x_elf_heads.specs.declared.elf_rule.ElfRule.TheVariants.{Index, NoNul}
-use Rattle.c6x_elf_heads.specs.declared.section_head.SectionHead.{SectionHead}
+use Rattle.c6x_elf_headers.specs.Rules.{Refusal, ◌<|>◌, first_along, must}
+use Rattle.c6x_elf_headers.specs.declared.elf_rule.ElfRule.TheVariants.{Index, NoNul}
+use Rattle.c6x_elf_headers.specs.declared.section_head.SectionHead.{SectionHead}
 use Rattle.c6x_elf.specs.Parts.{is_relocation_table, is_symbol_table}
 use Rattle.c6x_elf.specs.declared.section.Section.{Section}
 

@@ -1,7 +1,7 @@
 use Rattle.std.specs.Prelude.{◌≡◌, ℕ, ◌+◌, ◌≤◌, false, IsTrue, None, All, length, map, sum_by}
-use Rattle.c6x_elf_heads.specs.Header.{is_file_type, is_none_or_below}
-use Rattle.c6x_elf_heads.specs.Rules.{along_both, first_along}
-use Rattle.c6x_elf_heads.specs.declared.section_head.SectionHead.{SectionHead}
+use Rattle.c6x_elf_headers.specs.Header.{is_file_type, is_none_or_below}
+use Rattle.c6x_elf_headers.specs.Rules.{along_both, first_along}
+use Rattle.c6x_elf_headers.specs.declared.section_head.SectionHead.{SectionHead}
 use Rattle.c6x_elf.specs.Entries.{named_refusal}
 use Rattle.c6x_elf.specs.Parts.{fields_refusal, section_size}
 use Rattle.c6x_elf.specs.Writing.{section_head_at, written_size}

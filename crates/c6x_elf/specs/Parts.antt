@@ -1,8 +1,8 @@
 use Rattle.std.specs.Prelude.{ℕ, ◌+◌, ◌*◌, ◌%◌, ◌==◌, ◌&&◌, ◌||◌, not, Bool, List, Option, length, nat_le, nat_lt, take, drop, if◌then◌else◌}
-use Rattle.c6x_elf_heads.specs.Rules.{Refusal, ◌<|>◌, must}
-use Rattle.c6x_elf_heads.specs.declared.elf_rule.ElfRule.TheVariants.{Short, EntrySize, Index, Large}
-use Rattle.c6x_elf_heads.specs.declared.section_head.SectionHead.{SectionHead}
-use Rattle.c6x_elf_heads.specs.declared.segment_head.SegmentHead.{SegmentHead}
+use Rattle.c6x_elf_headers.specs.Rules.{Refusal, ◌<|>◌, must}
+use Rattle.c6x_elf_headers.specs.declared.elf_rule.ElfRule.TheVariants.{Short, EntrySize, Index, Large}
+use Rattle.c6x_elf_headers.specs.declared.section_head.SectionHead.{SectionHead}
+use Rattle.c6x_elf_headers.specs.declared.segment_head.SegmentHead.{SegmentHead}
 use Rattle.c6x_elf.specs.declared.section.Section.{Section}
 use Rattle.c6x_elf.specs.declared.segment.Segment.{Segment}
 

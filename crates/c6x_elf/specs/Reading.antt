@@ -1,11 +1,11 @@
 use Rattle.std.specs.Prelude.{ℕ, Bool, List, Option, map, sum_by}
-use Rattle.c6x_elf_heads.specs.Header.{header_refusal}
-use Rattle.c6x_elf_heads.specs.Heads.{file_head, is_big, section_heads, segment_heads}
-use Rattle.c6x_elf_heads.specs.Rules.{Refusal, ◌<|>◌, along_both, along_parts, must}
-use Rattle.c6x_elf_heads.specs.declared.elf_rule.ElfRule.TheVariants.{Short}
-use Rattle.c6x_elf_heads.specs.declared.file_head.FileHead.{FileHead}
-use Rattle.c6x_elf_heads.specs.declared.section_head.SectionHead.{SectionHead}
-use Rattle.c6x_elf_heads.specs.declared.segment_head.SegmentHead.{SegmentHead}
+use Rattle.c6x_elf_headers.specs.Header.{header_refusal}
+use Rattle.c6x_elf_headers.specs.Heads.{file_head, is_big, section_heads, segment_heads}
+use Rattle.c6x_elf_headers.specs.Rules.{Refusal, ◌<|>◌, along_both, along_parts, must}
+use Rattle.c6x_elf_headers.specs.declared.elf_rule.ElfRule.TheVariants.{Short}
+use Rattle.c6x_elf_headers.specs.declared.file_head.FileHead.{FileHead}
+use Rattle.c6x_elf_headers.specs.declared.section_head.SectionHead.{SectionHead}
+use Rattle.c6x_elf_headers.specs.declared.segment_head.SegmentHead.{SegmentHead}
 use Rattle.c6x_elf.specs.Entries.{named_refusal}
 use Rattle.c6x_elf.specs.Parts.{are_within, section_of, section_refusal, section_size, segment_of, segment_refusal, segment_size}
 use Rattle.c6x_elf.specs.declared.file.File.{File}

@@ -2,11 +2,11 @@ use Rattle.std.specs.Prelude.{ℕ, ◌+◌, ◌-◌, ◌*◌, ◌%◌, ◌≤◌
 use Rattle.std.specs.Int.{is_power_of_two}
 use Rattle.std.specs.Str.{bytes_eq}
 use Rattle.c6x_base.specs.Rounded.{rounded}
-use Rattle.c6x_elf_heads.specs.declared.file_head.FileHead.{FileHead}
-use Rattle.c6x_elf_heads.specs.declared.section_head.SectionHead.{SectionHead}
-use Rattle.c6x_elf_heads.specs.declared.segment_head.SegmentHead.{SegmentHead}
-use Rattle.c6x_elf_image.specs.HeadRows.{FileFits, SectionsFit, SegmentsFit, file_row, section_rows, segment_rows}
-use Rattle.c6x_elf_image.specs.Laid.{Part, laid}
+use Rattle.c6x_elf_headers.specs.declared.file_head.FileHead.{FileHead}
+use Rattle.c6x_elf_headers.specs.declared.section_head.SectionHead.{SectionHead}
+use Rattle.c6x_elf_headers.specs.declared.segment_head.SegmentHead.{SegmentHead}
+use Rattle.c6x_elf_layout.specs.HeadRows.{FileFits, SectionsFit, SegmentsFit, file_row, section_rows, segment_rows}
+use Rattle.c6x_elf_layout.specs.Laid.{Part, laid}
 use Rattle.c6x_elf.specs.Parts.{has_bytes}
 use Rattle.c6x_elf.specs.declared.file.File.{File}
 use Rattle.c6x_elf.specs.declared.section.Section.{Section}

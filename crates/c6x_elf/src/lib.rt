@@ -17,7 +17,7 @@ mod spot;
 mod writing;
 
 pub use c6x_elf_entries::{Dyn, Rela, Symbol, dynamic, hash, name_at, rela, symbol};
-pub use c6x_elf_heads::{ElfError, ElfRule};
+pub use c6x_elf_headers::{ElfError, ElfRule};
 pub use file::File;
 pub use reading::read_file;
 pub use section::Section;

@@ -1,12 +1,12 @@
 ghost use Rattle.std.specs.Prelude.{◌≡◌, ◌+◌, ◌*◌, ◌/◌, ◌<◌, ◌≤◌, length, IfOk};
 ghost use Rattle.std.specs.List.{range_with_len};
-ghost use Rattle.c6x_elf_heads.specs.Rules.{along_both, first_along, Passes};
+ghost use Rattle.c6x_elf_headers.specs.Rules.{along_both, first_along, Passes};
 ghost use Rattle.c6x_elf.specs.Entries.{ArePlaced, entries_refusal, IsPlaced, is_section_number, name_end, name_ends, name_refusal, named_refusal, own_name_refusal, rela_refusal, relas_refusal, symbol_refusal, symbols_in, symbols_refusal, text_of};
 
 use crate::parts::{is_relocation_table, is_symbol_table};
 use crate::section::Section;
 use c6x_elf_entries::{read_half, read_word};
-use c6x_elf_heads::{ElfError, ElfRule, SectionHead, check};
+use c6x_elf_headers::{ElfError, ElfRule, SectionHead, check};
 use std::alloc::{AllocError, Global};
 
 /// The name and the entries of each section, where `names` is the section of the names.

@@ -1,11 +1,11 @@
 ghost use Rattle.std.specs.Prelude.{◌≡◌, ◌+◌, ◌*◌, ◌^◌, ◌<◌, ◌≤◌, length, take, drop, IsTrue, IfOk, OnOk};
-ghost use Rattle.c6x_elf_heads.specs.Rules.{Passes};
+ghost use Rattle.c6x_elf_headers.specs.Rules.{Passes};
 ghost use Rattle.c6x_elf.specs.Parts.{are_within, fields_refusal, has_bytes, has_entries, has_target, is_linked, is_relocation_table, is_symbol_table, is_within, part_refusal, section_of, section_refusal, section_size, segment_of, segment_refusal};
 
 use crate::section::Section;
 use crate::segment::Segment;
 use c6x_base::Bytes;
-use c6x_elf_heads::{ElfError, ElfRule, SectionHead, SegmentHead, check};
+use c6x_elf_headers::{ElfError, ElfRule, SectionHead, SegmentHead, check};
 use std::alloc::Global;
 
 /// The most bytes of all segments and sections of a file together.

@@ -1,6 +1,6 @@
 ghost use Rattle.std.specs.Prelude.{◌≡◌, ◌+◌, ◌*◌, ◌<◌, ◌≤◌, length, map, sum_by, IfOk, OnOk};
-ghost use Rattle.c6x_elf_heads.specs.Heads.{AreSectionHeadsNear, AreSegmentHeadsNear, file_head, is_big};
-ghost use Rattle.c6x_elf_heads.specs.Rules.{along_parts, Passes};
+ghost use Rattle.c6x_elf_headers.specs.Heads.{AreSectionHeadsNear, AreSegmentHeadsNear, file_head, is_big};
+ghost use Rattle.c6x_elf_headers.specs.Rules.{along_parts, Passes};
 ghost use Rattle.c6x_elf.specs.Form.{HasReadForm};
 ghost use Rattle.c6x_elf.specs.Parts.{section_of, section_refusal, section_size, segment_of, segment_refusal, segment_size};
 ghost use Rattle.c6x_elf.specs.Reading.{file_of, file_with, names_refusal, parts_refusal, refusal_of, section_heads_of, sections_of, sections_refusal, segment_heads_of, segments_refusal, segments_total, tables_refusal};
@@ -11,7 +11,7 @@ use crate::parts::{are_within, section_in, section_size, segment_in};
 use crate::section::Section;
 use crate::segment::Segment;
 use c6x_base::Row;
-use c6x_elf_heads::{
+use c6x_elf_headers::{
     ElfError, ElfRule, FileHead, SectionHead, SegmentHead, check, is_big, read_header,
     read_section_heads, read_segment_heads,
 };

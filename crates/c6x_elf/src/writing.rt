@@ -1,7 +1,7 @@
 ghost use Rattle.std.specs.Prelude.{◌≡◌, ◌+◌, ◌*◌, ◌≤◌, ◌<◌, ◌++◌, [], None, false, List, length, map, All, IsTrue, IfOk, IfErr, IfNone, IfSome, OnOk, ◌↔◌, ◌^◌, vec_len, ◌==◌, if◌then◌else◌};
 ghost use Rattle.c6x_base.specs.Rounded.{rounded};
-ghost use Rattle.c6x_elf_image.specs.HeadRows.{FileFits, SectionsFit, SegmentsFit, file_row, section_rows, segment_rows};
-ghost use Rattle.c6x_elf_image.specs.Laid.{InOrder, Part, laid};
+ghost use Rattle.c6x_elf_layout.specs.HeadRows.{FileFits, SectionsFit, SegmentsFit, file_row, section_rows, segment_rows};
+ghost use Rattle.c6x_elf_layout.specs.Laid.{InOrder, Part, laid};
 ghost use Rattle.c6x_elf.specs.Form.{HasReadForm, IsHeld, IsTidy};
 ghost use Rattle.c6x_elf.specs.Parts.{has_bytes};
 ghost use Rattle.c6x_elf.specs.Reading.{file_of, refusal_of};
@@ -14,12 +14,12 @@ use crate::section::Section;
 use crate::segment::Segment;
 use crate::spot::Spot;
 use c6x_base::Bytes;
-use c6x_elf_heads::{ElfError, FileHead, SectionHead, SegmentHead};
-use c6x_elf_image::{pad, put_file_head, put_part, put_section_head, put_segment_head};
+use c6x_elf_headers::{ElfError, FileHead, SectionHead, SegmentHead};
+use c6x_elf_layout::{pad, put_file_head, put_part, put_section_head, put_segment_head};
 use std::alloc::{AllocError, Global};
 
 /// Puts program headers from `at` on.
-#[tactic(auto, unfolding(c6x_elf_image::specs::HeadRows::segment_rows))]
+#[tactic(auto, unfolding(c6x_elf_layout::specs::HeadRows::segment_rows))]
 fn put_segment_heads(
     out: &mut Vec<u8>,
     at: u32,
@@ -41,7 +41,7 @@ fn put_segment_heads(
 }
 
 /// Puts section headers from `at` on.
-#[tactic(auto, unfolding(c6x_elf_image::specs::HeadRows::section_rows))]
+#[tactic(auto, unfolding(c6x_elf_layout::specs::HeadRows::section_rows))]
 fn put_section_heads(
     out: &mut Vec<u8>,
     at: u32,

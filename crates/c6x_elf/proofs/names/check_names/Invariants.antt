@@ -1,5 +1,5 @@
 use Rattle.std.proofs.Common.{◌≡◌, drop}
-use Rattle.c6x_elf_heads.specs.Rules.{along_both}
+use Rattle.c6x_elf_headers.specs.Rules.{along_both}
 use Rattle.c6x_elf.specs.Entries.{ArePlaced, named_refusal}
 use Rattle.c6x_elf.proofs.names.check_names.Given as goal
 

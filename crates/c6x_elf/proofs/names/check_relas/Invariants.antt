@@ -1,6 +1,6 @@
 use Rattle.std.proofs.Common.{◌≡◌, ◌-◌, ◌/◌, length}
 use Rattle.std.specs.List.{range_with_len}
-use Rattle.c6x_elf_heads.specs.Rules.{first_along}
+use Rattle.c6x_elf_headers.specs.Rules.{first_along}
 use Rattle.c6x_elf.specs.Entries.{rela_refusal}
 use Rattle.c6x_elf.proofs.names.check_relas.Given as goal
 

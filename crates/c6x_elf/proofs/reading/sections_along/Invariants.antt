@@ -1,5 +1,5 @@
 use Rattle.std.proofs.Common.{◌≡◌, ◌≤◌, map, take, drop}
-use Rattle.c6x_elf_heads.specs.Rules.{along_parts}
+use Rattle.c6x_elf_headers.specs.Rules.{along_parts}
 use Rattle.c6x_elf.specs.Parts.{section_of, section_refusal, section_size}
 use Rattle.c6x_elf.proofs.reading.sections_along.Given as goal
 

@@ -1,5 +1,5 @@
 use Rattle.std.proofs.Common.{◌≡◌, ◌≤◌, map, take, drop, sum_by}
-use Rattle.c6x_elf_heads.specs.Rules.{along_parts}
+use Rattle.c6x_elf_headers.specs.Rules.{along_parts}
 use Rattle.c6x_elf.specs.Parts.{segment_of, segment_refusal, segment_size}
 use Rattle.c6x_elf.proofs.reading.segments_along.Given as goal
 

@@ -1,0 +1,6 @@
+use Rattle.std.proofs.Common.{◌≡◌}
+use Rattle.c6x_elf_headers.specs.Heads.{segment_heads}
+use Rattle.c6x_elf_headers.proofs.head_row.read_segment_heads.Given as goal
+
+abbrev pub invariant-loop-k : goal.invariant-loop-k
+invariant-loop-k l = l.heads.items ≡ segment_heads l.big l.bytes l.at l.k

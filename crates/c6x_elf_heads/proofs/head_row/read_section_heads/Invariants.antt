@@ -1,6 +1,0 @@
-use Rattle.std.proofs.Common.{◌≡◌}
-use Rattle.c6x_elf_heads.specs.Heads.{section_heads}
-use Rattle.c6x_elf_heads.proofs.head_row.read_section_heads.Given as goal
-
-abbrev pub invariant-loop-k : goal.invariant-loop-k
-invariant-loop-k l = l.heads.items ≡ section_heads l.big l.bytes l.at l.k

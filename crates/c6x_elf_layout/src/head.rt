@@ -1,0 +1,93 @@
+ghost use Rattle.std.specs.Prelude.{◌≡◌, ◌+◌, ◌++◌, OnOk, vec_len};
+ghost use Rattle.c6x_elf_layout.specs.HeadRows.{file_row, FileFits, size_of, section_words, segment_words};
+ghost use Rattle.c6x_elf_layout.specs.Rows.{AreWords, word_row};
+
+use crate::number_row::{put_halves, put_words};
+use c6x_elf_headers::{FileHead, SectionHead, SegmentHead};
+use std::alloc::AllocError;
+
+/// Puts a file header.
+#[tactic(auto, unfolding(crate::specs::HeadRows::file_row), using(crate::proofs::HeadRows::file_row_put))]
+pub fn put_file_head(out: &mut Vec<u8>, big: bool, head: &FileHead) -> Result<(), AllocError>
+    ensures row { OnOk result (out.new.items ≡ out.old.items ++ file_row big head.now) }
+    ensures end { OnOk result (vec_len out.new ≡ vec_len out.old + 52) }
+    ensures fit { OnOk result (FileFits head.now) }
+{
+    let encoding = if big { 2 } else { 1 };
+    out.extend_from_slice(&[
+        0x7F, b'E', b'L', b'F', 1, encoding, 1, 0, 0, 0, 0, 0, 0, 0, 0, 0,
+    ])?;
+    put_halves(out, big, &[head.kind, 140])?;
+    put_words(
+        out,
+        big,
+        &[
+            1,
+            head.entry,
+            head.segments_at,
+            head.sections_at,
+            head.flags,
+        ],
+    )?;
+    let segment_size = size_of(head.segment_count, 32);
+    let section_size = size_of(head.section_count, 40);
+    put_halves(
+        out,
+        big,
+        &[
+            52,
+            segment_size,
+            head.segment_count,
+            section_size,
+            head.section_count,
+            head.names,
+        ],
+    )
+}
+
+/// The size of headers, and 0 where there are none.
+fn size_of(count: u16, size: u16) -> u16
+    ensures { result ≡ size_of count size }
+{
+    if count == 0 { 0 } else { size }
+}
+
+/// Puts a program header.
+pub fn put_segment_head(out: &mut Vec<u8>, big: bool, head: &SegmentHead) -> Result<(), AllocError>
+    ensures row { OnOk result (out.new.items ≡ out.old.items ++ word_row big (segment_words head.now)) }
+    ensures end { OnOk result (vec_len out.new ≡ vec_len out.old + 32) }
+    ensures fit { OnOk result (AreWords (segment_words head.now)) }
+{
+    let words = [
+        head.kind,
+        head.offset,
+        head.vaddr,
+        head.vaddr,
+        head.filesz,
+        head.memsz,
+        head.flags,
+        head.align,
+    ];
+    put_words(out, big, &words)
+}
+
+/// Puts a section header.
+pub fn put_section_head(out: &mut Vec<u8>, big: bool, head: &SectionHead) -> Result<(), AllocError>
+    ensures row { OnOk result (out.new.items ≡ out.old.items ++ word_row big (section_words head.now)) }
+    ensures end { OnOk result (vec_len out.new ≡ vec_len out.old + 40) }
+    ensures fit { OnOk result (AreWords (section_words head.now)) }
+{
+    let words = [
+        head.name,
+        head.kind,
+        head.flags,
+        head.addr,
+        head.offset,
+        head.size,
+        head.link,
+        head.info,
+        head.align,
+        head.entsize,
+    ];
+    put_words(out, big, &words)
+}
