@@ -1,2 +1,3 @@
 pub mod Patched
 pub mod RoundedUp
+pub mod Zeros

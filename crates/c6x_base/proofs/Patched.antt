@@ -1,19 +1,10 @@
 use Rattle.std.proofs.Common.{◌≡◌, ℕ, ◌+◌, ◌-◌, ◌*◌, ◌/◌, ◌%◌, ◌^◌, ◌<◌, ◌≤◌, inl, inr, bit_or, sym, ◌∙◌, ap, subst, add_comm, arith}
 use Rattle.std.proofs.Math.Nat.{add-mul, mul_assoc}
 use Rattle.std.specs.Int.{bit_at}
-use Rattle.std.proofs.lemmas.Nat.{or_shifted, shr_high, mod_low, shl_whole, shl_below, shr_split, pow-add, mod_below, pow_pos}
+use Rattle.std.proofs.lemmas.Nat.{or_shifted, shr_high, mod_low, shl_whole, shl_below, pow-add}
 use Rattle.std.proofs.lemmas.Nat.Bits.{bit_at_cat_low, bit_at_cat_high}
 use Rattle.c6x_spec.specs.Fields.{IsPatched}
-
-rest_below : (word k : ℕ) → word % 2 ^ k < 2 ^ k
-rest_below word k = mod_below word (2 ^ k) (pow_pos k)
-
--- a bit of a word stands in its low part or in its high part
-bit_at_below : (word k i : ℕ) → i < k → bit_at word i ≡ bit_at (word % 2 ^ k) i
-bit_at_below word k i below = ap (λ n. bit_at n i) (sym (shr_split word k)) ∙ bit_at_cat_low (word / 2 ^ k) k (word % 2 ^ k) i below
-
-bit_at_from : (word k i : ℕ) → k ≤ i → bit_at word i ≡ bit_at (word / 2 ^ k) (i - k)
-bit_at_from word k i from = ap (λ n. bit_at n i) (sym (shr_split word k)) ∙ bit_at_cat_high (word / 2 ^ k) k (word % 2 ^ k) i (rest_below word k) from
+use Rattle.c6x_spec.proofs.NumberBits.{bit_at_below, bit_at_from, rest_below}
 
 -- the part above a field, a value and the part below it, side by side, are the word with that value in the field
 joined_3 : (word low count value : ℕ) → value < 2 ^ count → IsPatched word low count value ((word / 2 ^ (low + count) * 2 ^ count + value) * 2 ^ low + word % 2 ^ low)

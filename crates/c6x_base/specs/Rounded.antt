@@ -1,12 +1,1 @@
-use Rattle.std.specs.Prelude.{◌≡◌, ℕ, ◌+◌, ◌-◌, ◌*◌, ◌/◌, ◌≤◌}
-
--- The multiple of `align` that `round_up` answers.
-abbrev pub rounded : ℕ → ℕ → ℕ
-rounded v align = (v + (align - 1)) / align * align
-
--- The least multiple of `align` that is not below `v`.
-pub record IsRounded (v align multiple : ℕ) : Type 0 where
-  pub count : ℕ
-  pub multiple_of : multiple ≡ count * align
-  pub not_below : v ≤ multiple
-  pub least : (other : ℕ) → v ≤ other * align → multiple ≤ other * align
+pub use Rattle.c6x_spec.specs.Rounded.{rounded, IsRounded}

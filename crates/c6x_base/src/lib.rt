@@ -5,17 +5,22 @@
 #![tactic(auto)]
 
 mod bytes;
+mod hex;
+pub mod limits;
 mod line;
 mod name;
 mod numbers;
+mod places;
 mod range;
 mod row;
 mod side;
 
 pub use bytes::Bytes;
+pub use hex::hex_word;
 pub use line::Line;
 pub use name::Name;
-pub use numbers::{bits, round_up, sign_extend, with_bits};
+pub use numbers::{bits, sign_extend, with_bits};
+pub use places::{least_multiple, least_place, round_up};
 pub use range::Range;
 pub use row::Row;
 pub use side::Side;

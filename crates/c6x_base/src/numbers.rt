@@ -1,7 +1,5 @@
 ghost use Rattle.std.specs.Prelude.{◌≡◌, ℕ, ◌+◌, ◌-◌, ◌*◌, ◌/◌, ◌%◌, ◌^◌, ◌<◌, ◌≤◌};
-ghost use Rattle.std.specs.Option.{SomeIff};
 ghost use Rattle.c6x_spec.specs.Fields.{bits_of, IsPatched, signed_of};
-ghost use Rattle.c6x_base.specs.Rounded.{rounded, IsRounded};
 
 /// The `n` bits of a word from bit `lo` on.
 pub fn bits(word: u32, lo: u32, n: u32) -> u32
@@ -34,19 +32,6 @@ pub fn sign_extend(v: u32, n: u32) -> i32
     } else {
         (i64::from(v) - (1 << n)) as i32
     }
-}
-
-/// The least multiple of `align` that is not below `v`. None exactly where it is 2^32 or more.
-#[tactic(auto, using(crate::proofs::RoundedUp::rounded_is_least))]
-pub fn round_up(v: u32, align: u32) -> Option<u32>
-    requires { 1 ≤ align }
-    ensures exact { SomeIff result (rounded v align < 2 ^ 32) (rounded v align) }
-    ensures least { IsRounded v align (rounded v align) }
-{
-    let v = u64::from(v);
-    let align = u64::from(align);
-    let multiple = (v + (align - 1)) / align * align;
-    u32::try_from(multiple).ok()
 }
 
 /// The bits of a word below bit `at`.

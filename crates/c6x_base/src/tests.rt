@@ -14,5 +14,12 @@ fn memory_is_given(rt: HostRuntime) -> Result<(), AllocError> {
     let row = Row::of(vec![in alloc; 7u32, 8]?);
     assert_eq!(&rt; row.as_slice().len(), 2);
     assert_eq!(&rt; row.into_vec().len(), 2);
+
+    let mut grown = Row::new(alloc);
+    grown.push(1)?;
+    grown.extend(&[2, 3])?;
+    grown.extend_zeros(2)?;
+    grown.write(3, 4);
+    assert!(&rt; grown.as_slice() == [1, 2, 3, 4, 0].as_slice());
     Ok(())
 }

@@ -1,6 +1,6 @@
 use Rattle.std.proofs.Common.{◌≡◌, ℕ, suc, ◌+◌, ◌-◌, ◌*◌, ◌≤◌, ◌==◌, Bool, true, false, cond, max, List, [], ◌∷◌, ◌++◌, Option, None, Some, length, replicate, refl, sym, ap, ◌∙◌, length-append, zero-add, subst, arith}
 use Rattle.std.proofs.lemmas.List.{length-replicate}
-use Rattle.c6x_base.specs.Rounded.{rounded}
+use Rattle.c6x_spec.specs.Rounded.{rounded}
 use Rattle.c6x_elf_headers.specs.declared.file_head.FileHead.{FileHead}
 use Rattle.c6x_elf_headers.specs.declared.section_head.SectionHead.{SectionHead}
 use Rattle.c6x_elf_headers.specs.declared.segment_head.SegmentHead.{SegmentHead}
@@ -15,7 +15,8 @@ use Rattle.c6x_elf.specs.declared.section.Section.{Section}
 use Rattle.c6x_elf.specs.declared.segment.Segment.{Segment}
 use Rattle.c6x_elf.specs.declared.spot.Spot.{Spot}
 use Rattle.c6x_elf.proofs.Puts.{with_section-append, with_segment-append}
-use Rattle.c6x_elf.proofs.Spots.{place_above, rounded_above}
+use Rattle.c6x_spec.proofs.LeastPlaces.{above_place}
+use Rattle.c6x_elf.proofs.Spots.{rounded_above}
 
 -- as many spots and offsets as parts
 pub length-spots : (earlier : List Segment) (had : List Spot) (from : ℕ) (segments : List Segment) → length (spots earlier had from segments) ≡ length segments
@@ -100,7 +101,7 @@ order_front from (part ∷ parts) b order = (order.0, order_front (part.at + len
 -- segments at their spots
 spot_chain : (home : Option ℕ) (from : ℕ) (segment : Segment) (parts : List Part) (end : ℕ) → Chain (end_of (spot_from home from segment) from segment) parts end → Chain from (with_segment segment (spot_from home from segment) parts) end
 unfolding end_of with_segment
-spot_chain None from segment parts end chain = (place_above from segment.vaddr (step_of segment.align), chain)
+spot_chain None from segment parts end chain = (above_place from segment.vaddr (step_of segment.align), chain)
 spot_chain (Some at) from segment parts end chain = chain
 
 spot_of_chain : (earlier : List Segment) (had : List Spot) (from : ℕ) (segment : Segment) (parts : List Part) (end : ℕ) → Chain (end_of (spot_of earlier had from segment) from segment) parts end → Chain from (with_segment segment (spot_of earlier had from segment) parts) end

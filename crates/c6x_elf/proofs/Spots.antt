@@ -1,8 +1,9 @@
 use Rattle.std.proofs.Common.{◌≡◌, ℕ, ◌+◌, ◌<◌, ◌≤◌, Bool, true, false, List, [], ◌∷◌, ◌++◌, Option, None, Some, length, take, drop, get_or, refl, sym, ap, ◌∙◌, append_assoc, cond, max, arith}
 use Rattle.std.proofs.lemmas.List.{drop_more, take_more}
-use Rattle.c6x_base.specs.Rounded.{rounded}
+use Rattle.c6x_spec.specs.Rounded.{rounded}
+use Rattle.c6x_spec.proofs.LeastPlaces.{above_place}
 use Rattle.c6x_elf.specs.Parts.{has_bytes}
-use Rattle.c6x_elf.specs.Writing.{AreWithin, end_of, home_of, is_inside, offset_end, offsets_end, place_after, spot_from, spot_of, spots, spots_end, step_of}
+use Rattle.c6x_elf.specs.Writing.{AreWithin, end_of, home_of, is_inside, offset_end, offsets_end, spot_from, spot_of, spots, spots_end, step_of}
 use Rattle.c6x_elf.specs.declared.section.Section.{Section}
 use Rattle.c6x_elf.specs.declared.segment.Segment.{Segment}
 use Rattle.c6x_elf.specs.declared.spot.Spot.{Spot}
@@ -14,14 +15,9 @@ from_element xs k x below is = drop_more xs k x below ∙ ap (λ y. y ∷ drop (
 pub to_element : {A : Type 0} (xs : List A) (k : ℕ) (x : A) → k < length xs → x ≡ get_or xs k x → take (k + 1) xs ≡ take k xs ++ x ∷ []
 to_element xs k x below is = take_more xs k x below ∙ ap (λ y. take k xs ++ y ∷ []) (sym is)
 
--- a spot lies behind what has been written
-pub place_above : (from vaddr step : ℕ) → from ≤ place_after from vaddr step
-unfolding place_after
-place_above from vaddr step = omega arith
-
 end_above_from : (home : Option ℕ) (from : ℕ) (segment : Segment) → from ≤ end_of (spot_from home from segment) from segment
 unfolding end_of
-end_above_from None from segment = omega (arith, place_above from segment.vaddr (step_of segment.align))
+end_above_from None from segment = omega (arith, above_place from segment.vaddr (step_of segment.align))
 end_above_from (Some at) from segment = omega arith
 
 pub end_of_above : (earlier : List Segment) (had : List Spot) (from : ℕ) (segment : Segment) → from ≤ end_of (spot_of earlier had from segment) from segment

@@ -1,7 +1,7 @@
 use Rattle.std.proofs.Common.{◌≡◌, ℕ, ◌+◌, ◌*◌, ◌≤◌, ◌==◌, ◌||◌, Bool, true, false, cond, List, [], ◌∷◌, ◌++◌, None, length, map, sum_by, nat_le, refl, sym, ap, ◌∙◌, zero-add, subst, arith}
 use Rattle.std.proofs.lemmas.List.{nil_from_length}
 use Rattle.std.proofs.lemmas.Bool.Decides.{nat_tests}
-use Rattle.c6x_base.specs.Rounded.{rounded}
+use Rattle.c6x_spec.specs.Rounded.{rounded}
 use Rattle.c6x_elf_headers.specs.Header.{HeadKeeps, header_refusal}
 use Rattle.c6x_elf_headers.specs.Heads.{file_head, is_big, section_heads, segment_heads}
 use Rattle.c6x_elf_headers.specs.Rules.{along_both, along_parts, must}

@@ -1,4 +1,5 @@
 use Rattle.std.specs.Prelude.{◌≡◌, ℕ, ◌+◌, ◌≤◌, false, IsTrue, None, All, length, map, sum_by}
+use Rattle.c6x_base.specs.declared.limits.TheConstants.{MOST_FILE_BYTES, MOST_HELD_BYTES, MOST_SECTIONS, MOST_SEGMENTS}
 use Rattle.c6x_elf_headers.specs.Header.{is_file_type, is_none_or_below}
 use Rattle.c6x_elf_headers.specs.Rules.{along_both, first_along}
 use Rattle.c6x_elf_headers.specs.declared.section_head.SectionHead.{SectionHead}
@@ -26,9 +27,9 @@ section_length section = length section.bytes
 -- A file has read form: its counts and its bytes together are within the limits, each section has its size, and
 -- no rule on the file type, on tables and their links, on names or on entries is broken by its own values.
 pub record HasReadForm (file : File) : Type 0 where
-  pub segments : length file.segments ≤ 64
-  pub sections : length file.sections ≤ 4096
-  pub held : sum_by segment_length file.segments + sum_by section_length file.sections ≤ 16777216
+  pub segments : length file.segments ≤ MOST_SEGMENTS
+  pub sections : length file.sections ≤ MOST_SECTIONS
+  pub held : sum_by segment_length file.segments + sum_by section_length file.sections ≤ MOST_HELD_BYTES
   pub sized : All IsSized file.sections
   pub kind : IsTrue (is_file_type file.kind)
   pub names : IsTrue (is_none_or_below file.names (length file.sections))
@@ -45,4 +46,4 @@ pub record IsHeld (segment : Segment) : Type 0 where
 pub record IsTidy (file : File) : Type 0 where
   pub form : HasReadForm file
   pub loaded : All IsHeld file.segments
-  pub small : written_size file ≤ 4194304
+  pub small : written_size file ≤ MOST_FILE_BYTES

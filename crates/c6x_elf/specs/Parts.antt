@@ -1,4 +1,5 @@
 use Rattle.std.specs.Prelude.{ℕ, ◌+◌, ◌*◌, ◌%◌, ◌==◌, ◌&&◌, ◌||◌, not, Bool, List, Option, length, nat_le, nat_lt, take, drop, if◌then◌else◌}
+use Rattle.c6x_base.specs.declared.limits.TheConstants.{MOST_HELD_BYTES}
 use Rattle.c6x_elf_headers.specs.Rules.{Refusal, ◌<|>◌, must}
 use Rattle.c6x_elf_headers.specs.declared.elf_rule.ElfRule.TheVariants.{Short, EntrySize, Index, Large}
 use Rattle.c6x_elf_headers.specs.declared.section_head.SectionHead.{SectionHead}
@@ -14,10 +15,10 @@ is_within bytes at size = size == 0 || nat_le (at + size) (length bytes)
 unfoldable pub are_within : List ℕ → ℕ → ℕ → ℕ → Bool
 are_within bytes at size count = count == 0 || nat_le (at + size * count) (length bytes)
 
--- The bytes of a part lie in the file, and with those of the parts in front of it are at most 16,777,216.
+-- The bytes of a part lie in the file, and with those of the parts in front of it are at most the most that a file may hold.
 unfoldable pub part_refusal : List ℕ → ℕ → ℕ → ℕ → ℕ → Option Refusal
 part_refusal bytes before at size place =
-    must (is_within bytes at size) Short place <|> must (nat_le (before + size) 16777216) Large place
+    must (is_within bytes at size) Short place <|> must (nat_le (before + size) MOST_HELD_BYTES) Large place
 
 -- The segment of a program header: the header's values, and its bytes in the file (gABI chapter 5, "Program
 -- Header").

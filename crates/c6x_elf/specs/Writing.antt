@@ -1,7 +1,8 @@
-use Rattle.std.specs.Prelude.{ℕ, ◌+◌, ◌-◌, ◌*◌, ◌%◌, ◌≤◌, ◌==◌, ◌&&◌, max, Bool, true, false, List, [], ◌∷◌, ◌++◌, Option, None, Some, length, nat_le, nat_lt, take, drop, if◌then◌else◌}
+use Rattle.std.specs.Prelude.{ℕ, ◌+◌, ◌-◌, ◌*◌, ◌≤◌, ◌==◌, ◌&&◌, max, Bool, true, false, List, [], ◌∷◌, ◌++◌, Option, None, Some, length, nat_le, nat_lt, take, drop, if◌then◌else◌}
 use Rattle.std.specs.Int.{is_power_of_two}
 use Rattle.std.specs.Str.{bytes_eq}
-use Rattle.c6x_base.specs.Rounded.{rounded}
+use Rattle.c6x_spec.specs.Places.{least_place}
+use Rattle.c6x_spec.specs.Rounded.{rounded}
 use Rattle.c6x_elf_headers.specs.declared.file_head.FileHead.{FileHead}
 use Rattle.c6x_elf_headers.specs.declared.section_head.SectionHead.{SectionHead}
 use Rattle.c6x_elf_headers.specs.declared.segment_head.SegmentHead.{SegmentHead}
@@ -17,10 +18,6 @@ use Rattle.c6x_elf.specs.declared.spot.Spot.{Spot}
 -- 4, and an alignment that is no power of two counts as 4.
 unfoldable pub step_of : ℕ → ℕ
 step_of align = if is_power_of_two align then max align 4 else 4
-
--- The least place from `from` on that is congruent to the address.
-unfoldable pub place_after : ℕ → ℕ → ℕ → ℕ
-place_after from vaddr step = from + (vaddr + (step - from % step)) % step
 
 -- A segment has bytes, and they stand at their addresses among the bytes of another one that is loaded.
 unfoldable pub is_inside : Segment → Segment → Bool
@@ -38,7 +35,7 @@ home_of segment (other ∷ others) (spot ∷ spots) =
 
 abbrev pub spot_from : Option ℕ → ℕ → Segment → Spot
 spot_from (Some at) from segment = record { at = at; fresh = false }
-spot_from None from segment = record { at = place_after from segment.vaddr (step_of segment.align); fresh = true }
+spot_from None from segment = record { at = least_place from segment.vaddr (step_of segment.align); fresh = true }
 
 -- A segment's spot in the file: bytes that an earlier one has already are not written again.
 unfoldable pub spot_of : List Segment → List Spot → ℕ → Segment → Spot

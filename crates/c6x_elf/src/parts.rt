@@ -5,11 +5,9 @@ ghost use Rattle.c6x_elf.specs.Parts.{are_within, fields_refusal, has_bytes, has
 use crate::section::Section;
 use crate::segment::Segment;
 use c6x_base::Bytes;
+use c6x_base::limits::MOST_HELD_BYTES;
 use c6x_elf_headers::{ElfError, ElfRule, SectionHead, SegmentHead, check};
 use std::alloc::Global;
-
-/// The most bytes of all segments and sections of a file together.
-const MOST_HELD: u64 = 16_777_216;
 
 /// The segment of a program header, where those in front of it have `before` bytes together.
 #[tactic(auto, unfolding(crate::specs::Parts::segment_of, crate::specs::Parts::segment_refusal))]
@@ -169,7 +167,7 @@ fn check_part(bytes: &[u8], before: u32, at: u32, size: u32, place: u32) -> Resu
 {
     check(is_within(bytes, at, size), ElfRule::Short, place)?;
     check(
-        u64::from(before) + u64::from(size) <= MOST_HELD,
+        u64::from(before) + u64::from(size) <= u64::from(MOST_HELD_BYTES),
         ElfRule::Large,
         place,
     )

@@ -1,15 +1,13 @@
 ghost use Rattle.std.specs.Prelude.{◌≡◌, ◌+◌, ◌≤◌, ◌<◌, ◌^◌, [], length, IsTrue, IfOk, IfSome, IfNone};
-ghost use Rattle.c6x_base.specs.Rounded.{rounded};
-ghost use Rattle.c6x_elf.specs.Writing.{AreWithin, end_of, home_of, is_inside, offset_end, offset_of, offsets, offsets_end, place_after, spot_of, spots, spots_end, step_of};
+ghost use Rattle.c6x_elf.specs.Writing.{AreWithin, end_of, home_of, is_inside, offset_end, offset_of, offsets, offsets_end, spot_of, spots, spots_end, step_of};
 
 use crate::parts::has_bytes;
 use crate::section::Section;
 use crate::segment::Segment;
 use crate::spot::Spot;
+use c6x_base::limits::MOST_FILE_BYTES;
+use c6x_base::{least_multiple, least_place};
 use std::alloc::{AllocError, Global};
-
-/// The most bytes of a file.
-const MOST_BYTES: u32 = 4_194_304;
 
 /// The spots of segments, of which the first may begin at `start`, and the place behind them; None
 /// exactly where that place is past the most bytes of a file.
@@ -67,9 +65,9 @@ fn spot_for(earlier: &[Segment], had: &[Spot], from: u32, segment: &Segment) -> 
     match home_of(segment, earlier, had) {
         Some(at) => Some(Spot { at, fresh: false }),
         None => {
-            let at = place_after(from, segment.vaddr, segment.align);
+            let at = least_place(u64::from(from), segment.vaddr, step_of(segment.align));
             let size = segment.bytes.as_bytes().len() as u64;
-            if at + size > u64::from(MOST_BYTES) {
+            if at + size > u64::from(MOST_FILE_BYTES) {
                 return None;
             }
             Some(Spot {
@@ -116,18 +114,6 @@ fn is_inside(segment: &Segment, other: &Segment) -> bool
     &part[..bytes.len()] == bytes
 }
 
-/// The least place from `from` on that is congruent to the address modulo the segment's step.
-#[tactic(auto, unfolding(crate::specs::Writing::place_after))]
-fn place_after(from: u32, vaddr: u32, align: u32) -> u64
-    ensures place { result ≡ place_after from vaddr (step_of align) }
-    ensures near { (from ≤ result) × (result < from + step_of align) }
-    ensures small { result < 2 ^ 33 }
-{
-    let step = u64::from(step_of(align));
-    let from = u64::from(from);
-    from + (u64::from(vaddr) + (step - from % step)) % step
-}
-
 /// What a segment's offset and address are congruent by.
 #[tactic(auto, unfolding(crate::specs::Writing::step_of))]
 fn step_of(align: u32) -> u32
@@ -158,7 +144,7 @@ pub fn place_sections(
     let mut at = from;
     for section in sections {
         let end = offset_end(at, section);
-        if end > u64::from(MOST_BYTES) {
+        if end > u64::from(MOST_FILE_BYTES) {
             return Ok(None);
         }
         made.push(offset_of(at, section))?;
@@ -174,7 +160,7 @@ fn offset_of(from: u32, section: &Section) -> u32
     ensures { result ≡ offset_of from section.now }
 {
     if has_bytes(section.kind) {
-        rounded(from, section.align.max(1)) as u32
+        least_multiple(u64::from(from), section.align.max(1)) as u32
     } else {
         0
     }
@@ -186,19 +172,9 @@ fn offset_end(from: u32, section: &Section) -> u64
     ensures { result ≡ offset_end from section.now }
 {
     if has_bytes(section.kind) {
-        rounded(from, section.align.max(1)) + section.bytes.as_bytes().len() as u64
+        least_multiple(u64::from(from), section.align.max(1))
+            + section.bytes.as_bytes().len() as u64
     } else {
         u64::from(from)
     }
-}
-
-/// The least multiple of `align` that is not below `from`.
-pub fn rounded(from: u32, align: u32) -> u64
-    requires { 1 ≤ align }
-    ensures place { result ≡ rounded from align }
-    ensures small { result < 2 ^ 33 }
-{
-    let from = u64::from(from);
-    let align = u64::from(align);
-    (from + (align - 1)) / align * align
 }

@@ -1,5 +1,5 @@
 ghost use Rattle.std.specs.Prelude.{◌≡◌, ◌+◌, ◌*◌, ◌≤◌, ◌<◌, ◌++◌, [], None, false, List, length, map, All, IsTrue, IfOk, IfErr, IfNone, IfSome, OnOk, ◌↔◌, ◌^◌, vec_len, ◌==◌, if◌then◌else◌};
-ghost use Rattle.c6x_base.specs.Rounded.{rounded};
+ghost use Rattle.c6x_spec.specs.Rounded.{rounded};
 ghost use Rattle.c6x_elf_layout.specs.HeadRows.{FileFits, SectionsFit, SegmentsFit, file_row, section_rows, segment_rows};
 ghost use Rattle.c6x_elf_layout.specs.Laid.{InOrder, Part, laid};
 ghost use Rattle.c6x_elf.specs.Form.{HasReadForm, IsHeld, IsTidy};
@@ -9,11 +9,12 @@ ghost use Rattle.c6x_elf.specs.Writing.{AreWithin, FileSizes, front_part, head_o
 
 use crate::file::File;
 use crate::parts::has_bytes;
-use crate::placing::{place_sections, place_segments, rounded};
+use crate::placing::{place_sections, place_segments};
 use crate::section::Section;
 use crate::segment::Segment;
 use crate::spot::Spot;
-use c6x_base::Bytes;
+use c6x_base::limits::MOST_FILE_BYTES;
+use c6x_base::{Bytes, least_multiple};
 use c6x_elf_headers::{ElfError, FileHead, SectionHead, SegmentHead};
 use c6x_elf_layout::{pad, put_file_head, put_part, put_section_head, put_segment_head};
 use std::alloc::{AllocError, Global};
@@ -184,7 +185,7 @@ fn lay_out(alloc: Global, file: &File) -> Result<Option<Layout>, AllocError>
         return Ok(None);
     };
     let at = table_at(sections.len(), end);
-    if sections.len() > 0 && at + 40 * sections.len() as u64 > 4_194_304 {
+    if sections.len() > 0 && at + 40 * sections.len() as u64 > u64::from(MOST_FILE_BYTES) {
         return Ok(None);
     }
     Ok(Some(Layout {
@@ -199,7 +200,11 @@ fn table_at(count: usize, end: u32) -> u64
     ensures place { result ≡ (if count == 0 then 0 else rounded end 4) }
     ensures small { result < 2 ^ 33 }
 {
-    if count == 0 { 0 } else { rounded(end, 4) }
+    if count == 0 {
+        0
+    } else {
+        least_multiple(u64::from(end), 4)
+    }
 }
 
 /// Whether a file that has read form is tidy: its loaded segments have memory for their bytes, and its

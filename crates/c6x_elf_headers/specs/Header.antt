@@ -1,5 +1,6 @@
 use Rattle.std.specs.Prelude.{ℕ, ◌≤◌, ◌==◌, IsTrue, ◌&&◌, ◌||◌, Bool, List, Option, length, nat_le, nat_lt, slice_index}
 use Rattle.c6x_spec.specs.Numbers.{half_at, word_at}
+use Rattle.c6x_base.specs.declared.limits.TheConstants.{MOST_FILE_BYTES, MOST_SECTIONS, MOST_SEGMENTS}
 use Rattle.c6x_elf_headers.specs.Heads.{is_big}
 use Rattle.c6x_elf_headers.specs.declared.file_head.FileHead.{FileHead}
 use Rattle.c6x_elf_headers.specs.Rules.{Refusal, ◌<|>◌, must, whole}
@@ -26,7 +27,7 @@ is_none_or_sized count size wanted = count == 0 || size == wanted
 -- little-endian, the version is 1, and the other nine bytes may be any.
 unfoldable pub ident_refusal : List ℕ → Option Refusal
 ident_refusal bytes =
-    must (nat_le (length bytes) 4194304) Large 0
+    must (nat_le (length bytes) MOST_FILE_BYTES) Large 0
     <|> whole bytes 0 4 <|> must (is_magic bytes) Magic 0
     <|> whole bytes 4 1 <|> must (slice_index bytes 4 == 1) Class 4
     <|> whole bytes 5 1 <|> must (slice_index bytes 5 == 1) Data 5
@@ -46,9 +47,9 @@ numbers_refusal big bytes =
 unfoldable pub counts_refusal : Bool → List ℕ → Option Refusal
 counts_refusal big bytes =
     whole bytes 40 2 <|> whole bytes 42 2
-    <|> whole bytes 44 2 <|> must (nat_le (half_at big bytes 44) 64) Large 44
+    <|> whole bytes 44 2 <|> must (nat_le (half_at big bytes 44) MOST_SEGMENTS) Large 44
     <|> whole bytes 46 2
-    <|> whole bytes 48 2 <|> must (nat_le (half_at big bytes 48) 4096) Large 48
+    <|> whole bytes 48 2 <|> must (nat_le (half_at big bytes 48) MOST_SECTIONS) Large 48
     <|> whole bytes 50 2 <|> must (is_none_or_below (half_at big bytes 50) (half_at big bytes 48)) Index 50
 
 -- Program headers have 32 bytes each, and section headers 40.
@@ -67,6 +68,6 @@ header_refusal bytes =
 -- What the header says of the file keeps the rules on its type, its counts and the section of the names.
 pub record HeadKeeps (head : FileHead) : Type 0 where
   pub kind : IsTrue (is_file_type head.kind)
-  pub segments : head.segment_count ≤ 64
-  pub sections : head.section_count ≤ 4096
+  pub segments : head.segment_count ≤ MOST_SEGMENTS
+  pub sections : head.section_count ≤ MOST_SECTIONS
   pub names : IsTrue (is_none_or_below head.names head.section_count)

@@ -8,10 +8,8 @@ use crate::checks::{check, need};
 use crate::elf_error::ElfError;
 use crate::elf_rule::ElfRule;
 use crate::file_head::FileHead;
+use c6x_base::limits::{MOST_FILE_BYTES, MOST_SECTIONS, MOST_SEGMENTS};
 use c6x_elf_entries::{read_half, read_word};
-
-/// The most bytes of a file.
-const MOST_BYTES: usize = 4_194_304;
 
 /// The file header, or the first broken rule of the length and the header.
 #[tactic(auto, unfolding(crate::specs::Header::header_refusal))]
@@ -20,7 +18,7 @@ pub fn read_header(bytes: &[u8]) -> Result<FileHead, ElfError>
     ensures value { IfOk result (λ head. head ≡ file_head (is_big bytes.now) bytes.now) }
     ensures keeps { IfOk result HeadKeeps }
     ensures little { OnOk result (is_big bytes.now ≡ false) }
-    ensures few { OnOk result (length bytes.now ≤ 4194304) }
+    ensures few { OnOk result (length bytes.now ≤ MOST_FILE_BYTES) }
     ensures within { OnOk result (52 ≤ length bytes.now) }
 {
     check_ident(bytes)?;
@@ -46,9 +44,9 @@ fn check_ident(bytes: &[u8]) -> Result<(), ElfError>
     ensures passes { Passes result (ident_refusal bytes.now) }
     ensures little { OnOk result (is_big bytes.now ≡ false) }
     ensures within { OnOk result (16 ≤ length bytes.now) }
-    ensures few { OnOk result (length bytes.now ≤ 4194304) }
+    ensures few { OnOk result (length bytes.now ≤ MOST_FILE_BYTES) }
 {
-    check(bytes.len() <= MOST_BYTES, ElfRule::Large, 0)?;
+    check(bytes.len() <= MOST_FILE_BYTES as usize, ElfRule::Large, 0)?;
     need(bytes, 0, 4)?;
     check(is_magic(bytes), ElfRule::Magic, 0)?;
     need(bytes, 4, 1)?;
@@ -87,19 +85,20 @@ fn check_numbers(big: bool, bytes: &[u8]) -> Result<(), ElfError>
 #[tactic(auto, unfolding(crate::specs::Header::counts_refusal))]
 fn check_counts(big: bool, bytes: &[u8]) -> Result<(), ElfError>
     ensures passes { Passes result (counts_refusal big bytes.now) }
-    ensures segments { OnOk result (half_at big bytes.now 44 ≤ 64) }
-    ensures sections { OnOk result (half_at big bytes.now 48 ≤ 4096) }
+    ensures segments { OnOk result (half_at big bytes.now 44 ≤ MOST_SEGMENTS) }
+    ensures sections { OnOk result (half_at big bytes.now 48 ≤ MOST_SECTIONS) }
     ensures names { OnOk result (IsTrue (is_none_or_below (half_at big bytes.now 50) (half_at big bytes.now 48))) }
     ensures within { OnOk result (52 ≤ length bytes.now) }
 {
     need(bytes, 40, 2)?;
     need(bytes, 42, 2)?;
     need(bytes, 44, 2)?;
-    check(read_half(big, bytes, 44) <= 64, ElfRule::Large, 44)?;
+    let segments = read_half(big, bytes, 44);
+    check(segments <= MOST_SEGMENTS, ElfRule::Large, 44)?;
     need(bytes, 46, 2)?;
     need(bytes, 48, 2)?;
     let sections = read_half(big, bytes, 48);
-    check(sections <= 4096, ElfRule::Large, 48)?;
+    check(sections <= MOST_SECTIONS, ElfRule::Large, 48)?;
     need(bytes, 50, 2)?;
     check(
         is_none_or_below(read_half(big, bytes, 50), sections),
@@ -133,8 +132,8 @@ fn check_sizes(big: bool, bytes: &[u8]) -> Result<(), ElfError>
 fn head_in(big: bool, bytes: &[u8]) -> FileHead
     requires within { 52 ≤ length bytes.now }
     requires kind { IsTrue (is_file_type (half_at big bytes.now 16)) }
-    requires segments { half_at big bytes.now 44 ≤ 64 }
-    requires sections { half_at big bytes.now 48 ≤ 4096 }
+    requires segments { half_at big bytes.now 44 ≤ MOST_SEGMENTS }
+    requires sections { half_at big bytes.now 48 ≤ MOST_SECTIONS }
     requires names { IsTrue (is_none_or_below (half_at big bytes.now 50) (half_at big bytes.now 48)) }
     ensures value { result ≡ file_head big bytes.now }
     ensures keeps { HeadKeeps result }

@@ -2,7 +2,8 @@ use Rattle.std.proofs.Common.{◌≡◌, [], ◌∷◌, refl}
 use Rattle.std.specs.Prelude.{None, Some}
 use Rattle.c6x_module.specs.declared.module.Module.{Module}
 use Rattle.c6x_load.specs.declared.one.One.{One}
-use Rattle.c6x_load.specs.Placement.{least_place, place_below, placed_one}
+use Rattle.c6x_spec.specs.Places.{least_place}
+use Rattle.c6x_load.specs.Placement.{place_below, placed_one}
 use Rattle.c6x_load.specs.Start.{slot_value, start_byte, launch_of}
 
 -- A worked row: a module of 116 bytes of text and one word of data, its table; a stack of 64 bytes; a memory at

@@ -1,5 +1,6 @@
 use Rattle.std.specs.Prelude.{◌≡◌, ℕ, ◌+◌, ◌-◌, ◌%◌, ◌^◌, ◌<◌, ◌≤◌, max, nat_le, Option, None, Some, if◌then◌else◌}
 use Rattle.c6x_spec.specs.Options.{◌>>=◌}
+use Rattle.c6x_spec.specs.Places.{IsLeastPlace, least_place}
 use Rattle.c6x_elf.specs.declared.segment.Segment.{Segment}
 use Rattle.c6x_module.specs.declared.module.Module.{Module}
 use Rattle.c6x_load.specs.declared.one.One.{One}
@@ -9,17 +10,6 @@ pub record IsStack (stack : ℕ) : Type 0 where
   pub least : 64 ≤ stack
   pub most : stack ≤ 65536
   pub whole : stack % 8 ≡ 0
-
--- The least address not below the cursor whose displacement from the file address is a multiple of the step, that is,
--- which is congruent to it (as the gABI asks of `p_vaddr` and `p_offset`).
-pub record IsLeastPlace (cursor vaddr step at : ℕ) : Type 0 where
-  pub above : cursor ≤ at
-  pub congruent : at % step ≡ vaddr % step
-  pub least : (other : ℕ) → cursor ≤ other → other % step ≡ vaddr % step → at ≤ other
-
--- That address as a number.
-unfoldable pub least_place : ℕ → ℕ → ℕ → ℕ
-least_place cursor vaddr step = cursor + (vaddr + (step - cursor % step)) % step
 
 -- A text keeps its fetch packets of 32 bytes (SPRU732), a data range its double words of 8 bytes, and each its own
 -- alignment where that is greater.

@@ -2,9 +2,10 @@ ghost use Rattle.std.specs.Prelude.{◌≡◌, ℕ, ◌+◌, ◌-◌, ◌%◌, �
 ghost use Rattle.c6x_spec.specs.Memory.{CanStart};
 ghost use Rattle.c6x_module.specs.Valid.{IsValid};
 ghost use Rattle.c6x_load.specs.declared.one.One.{One as Seats};
-ghost use Rattle.c6x_load.specs.Placement.{IsStack, IsPlacement, EndsBelow, least_place, place_below, placed_one};
+ghost use Rattle.c6x_load.specs.Placement.{IsStack, IsPlacement, EndsBelow, place_below, placed_one};
 
 use crate::one::One;
+use c6x_base::least_place;
 use c6x_module::Module;
 
 /// Where the text, the data range and the stack of a process of one module stand in the memory of `len` bytes from
@@ -73,16 +74,4 @@ fn place_below(cursor: u64, vaddr: u32, step: u32, size: u32, end: u64) -> Optio
     } else {
         None
     }
-}
-
-/// The least address not below the cursor that is congruent to the file address modulo the step.
-#[tactic(auto, unfolding(crate::specs::Placement::least_place))]
-fn least_place(cursor: u64, vaddr: u32, step: u32) -> u64
-    requires stepping { 1 ≤ step }
-    requires low { cursor < 2 ^ 33 }
-    ensures value { result ≡ least_place cursor vaddr step }
-    ensures below { result < cursor + step }
-{
-    let step = u64::from(step);
-    cursor + (u64::from(vaddr) + (step - cursor % step)) % step
 }

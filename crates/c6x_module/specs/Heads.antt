@@ -1,4 +1,5 @@
 use Rattle.std.specs.Prelude.{◌≡◌, ℕ, ◌+◌, ◌*◌, ◌%◌, ◌^◌, ◌<◌, ◌≤◌, ◌⊎◌, IsTrue, List, length}
+use Rattle.c6x_base.specs.declared.limits.TheConstants.{MOST_FILE_BYTES, MOST_HELD_BYTES}
 use Rattle.c6x_module.specs.declared.header.Head.{Head}
 use Rattle.c6x_module.specs.declared.dynamics.Tags.{Tags}
 use Rattle.c6x_module.specs.Alignment.{is_alignment}
@@ -10,7 +11,7 @@ IsInFile bytes head = (head.filesz ≡ 0) ⊎ (head.offset + head.filesz ≤ len
 
 pub record IsRange (head : Head) : Type 0 where
   pub filled : head.filesz ≤ head.memsz
-  pub size : head.memsz ≤ 16777216
+  pub size : head.memsz ≤ MOST_HELD_BYTES
   pub range : head.vaddr + head.memsz < 2 ^ 32
 
 abbrev pub HeadsApart : Head → Head → Type 0
@@ -52,6 +53,6 @@ pub record IsModule (text range : Head) (entry : ℕ) (entries : List ℕ) : Typ
 -- What a plain file keeps, as facts.
 pub record ArePlainParts (bytes : List ℕ) : Type 0 where
   pub long : 148 ≤ length bytes
-  pub short : length bytes ≤ 4194304
+  pub short : length bytes ≤ MOST_FILE_BYTES
   pub heads : AreHeads bytes (text_head bytes) (data_head bytes) (dynamic_head bytes)
   pub rest : IsModule (text_head bytes) (data_head bytes) (file_entry bytes) (head_bytes bytes (dynamic_head bytes))

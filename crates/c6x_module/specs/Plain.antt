@@ -1,6 +1,7 @@
 use Rattle.std.specs.Prelude.{ℕ, ◌+◌, ◌-◌, ◌*◌, ◌%◌, ◌^◌, Bool, false, ◌==◌, ◌&&◌, ◌||◌, nat_le, nat_lt, List, [], ◌∷◌, length, take, drop, replicate, Option, None, Some, if◌then◌else◌}
 use Rattle.std.specs.Str.{bytes_eq}
 use Rattle.c6x_spec.specs.Numbers.{half_at, word_at}
+use Rattle.c6x_base.specs.declared.limits.TheConstants.{MOST_FILE_BYTES, MOST_HELD_BYTES}
 use Rattle.c6x_elf.specs.declared.segment.Segment.{Segment}
 use Rattle.c6x_module.specs.declared.header.Head.{Head}
 use Rattle.c6x_module.specs.declared.dynamics.Tags.{Tags}
@@ -27,7 +28,7 @@ identification = 0x7F ∷ 0x45 ∷ 0x4C ∷ 0x46 ∷ 1 ∷ 1 ∷ 1 ∷ []
 -- program headers of 32 bytes follow at 52, and which has no sections. The greatest length is this project's own.
 unfoldable pub is_plain_header : List ℕ → Bool
 is_plain_header bytes =
-    nat_le 148 (length bytes) && nat_le (length bytes) 4194304 && bytes_eq (take 7 bytes) identification
+    nat_le 148 (length bytes) && nat_le (length bytes) MOST_FILE_BYTES && bytes_eq (take 7 bytes) identification
     && half bytes 16 == 2 && half bytes 18 == 140 && word bytes 20 == 1 && word bytes 28 == 52
     && half bytes 42 == 32 && half bytes 44 == 3 && half bytes 48 == 0 && half bytes 50 == 0
 
@@ -67,7 +68,7 @@ head_bytes bytes head = slice_at bytes head.offset head.filesz
 
 -- A load segment has room for its bytes in memory, and ends below 2^32. The greatest size is this project's own.
 unfoldable pub is_loadable : Head → Bool
-is_loadable head = nat_le head.filesz head.memsz && nat_le head.memsz 16777216 && nat_lt (head.vaddr + head.memsz) (2 ^ 32)
+is_loadable head = nat_le head.filesz head.memsz && nat_le head.memsz MOST_HELD_BYTES && nat_lt (head.vaddr + head.memsz) (2 ^ 32)
 
 -- The two load segments share no address.
 unfoldable pub are_apart : Head → Head → Bool

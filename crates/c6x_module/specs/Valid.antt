@@ -1,5 +1,6 @@
 use Rattle.std.specs.Prelude.{◌≡◌, ℕ, ◌+◌, ◌*◌, ◌%◌, ◌^◌, ◌<◌, ◌≤◌, ◌⊎◌, IsTrue, List, [], length, sum_by, AllPairs, All}
 use Rattle.c6x_spec.specs.Fields.{bits_of}
+use Rattle.c6x_base.specs.declared.limits.TheConstants.{MOST_HELD_BYTES, MOST_NAMES_BYTES}
 use Rattle.c6x_elf.specs.declared.segment.Segment.{Segment}
 use Rattle.c6x_module.specs.declared.module.Module.{Module}
 use Rattle.c6x_module.specs.declared.symbol.DynSymbol.{DynSymbol}
@@ -11,7 +12,7 @@ use Rattle.c6x_module.specs.Alignment.{is_alignment}
 pub record IsLoadable (s : Segment) : Type 0 where
   pub kind : s.kind ≡ 1
   pub filled : length s.bytes ≤ s.memsz
-  pub size : s.memsz ≤ 16777216
+  pub size : s.memsz ≤ MOST_HELD_BYTES
   pub range : s.vaddr + s.memsz < 2 ^ 32
   pub alignment : IsTrue (is_alignment s.align)
 
@@ -71,7 +72,7 @@ pub record IsValid (m : Module) : Type 0 where
   pub fields : All (IsField m) m.fields
   pub fields_apart : AllPairs FieldsApart m.fields
   pub symbols : length m.symbols < 2 ^ 32
-  pub names : names_length m ≤ 4194304
+  pub names : names_length m ≤ MOST_NAMES_BYTES
 
 -- A module that makes a process alone: an executable, with no field to fill, that needs no other module.
 pub record IsAlone (m : Module) : Type 0 where

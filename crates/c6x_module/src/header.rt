@@ -3,6 +3,7 @@ ghost use Rattle.c6x_spec.specs.Numbers.{half_at, word_at};
 ghost use Rattle.c6x_module.specs.Plain.{is_plain_header, head_at, identification};
 
 use byteorder::{ByteOrder, LittleEndian};
+use c6x_base::limits::MOST_FILE_BYTES;
 
 /// 32 bits, little-endian, version 1 (gABI chapter 4, "ELF Identification").
 const IDENTIFICATION: [u8; 7] = [0x7F, b'E', b'L', b'F', 1, 1, 1];
@@ -42,10 +43,10 @@ pub fn word(bytes: &[u8], at: usize) -> u32
 pub fn is_plain_header(bytes: &[u8]) -> bool
     ensures value { result ≡ is_plain_header bytes.now }
     ensures long { IsTrue result → 148 ≤ length bytes.now }
-    ensures short { IsTrue result → length bytes.now ≤ 4194304 }
+    ensures short { IsTrue result → length bytes.now ≤ MOST_FILE_BYTES }
 {
     bytes.len() >= 148
-        && bytes.len() <= 4_194_304
+        && bytes.len() <= MOST_FILE_BYTES as usize
         && &bytes[..7] == IDENTIFICATION.as_slice()
         && half(bytes, 16) == 2
         && half(bytes, 18) == 140

@@ -4,6 +4,7 @@ ghost use Rattle.c6x_module.specs.Plain.{is_in_file, head_bytes, is_loadable, ar
 ghost use Rattle.c6x_module.specs.Heads.{IsInFile, IsRange, HeadsApart, AreHeads};
 
 use crate::header::Head;
+use c6x_base::limits::MOST_HELD_BYTES;
 
 /// The segment's bytes lie wholly in the file.
 #[tactic(auto, unfolding(crate::specs::Plain::is_in_file))]
@@ -35,7 +36,7 @@ fn is_loadable(head: &Head) -> bool
     ensures fact { IsTrue result → IsRange head.now }
 {
     head.filesz <= head.memsz
-        && head.memsz <= 16_777_216
+        && head.memsz <= MOST_HELD_BYTES
         && u64::from(head.vaddr) + u64::from(head.memsz) < 1 << 32
 }
 

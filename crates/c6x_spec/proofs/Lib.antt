@@ -1,2 +1,5 @@
-pub mod Splices
 pub mod Puts
+pub mod Splices
+pub mod RoundedUp
+pub mod LeastPlaces
+pub mod NumberBits

@@ -6,3 +6,5 @@ pub mod Sinks
 pub mod Printed
 pub mod Options
 pub mod Results
+pub mod Rounded
+pub mod Places
