@@ -5,8 +5,8 @@
 
 COMMAND is `rt ci` if none is given, or `rt ci --anew`, or `rt ci NAME..`. What it prints is passed on. A table follows: for
 each crate its lines of code, the time of its proof, of its tests' proof and of its edits, the sum, and the proof's seconds
-for a thousand lines; then the chain of crates whose proofs, one after the other, take longest. A crate that an earlier run
-proved has no time.
+for a thousand lines; then the chain of crates whose proofs, one after the other, take longest. A crate for which nothing
+was done, as one that an earlier run proved, has no line.
 
 The time is read from /proc, as the processes that prove run: a check in a folder rt-edit-* is an edit's (or the check that
 the edits begin with), one with --test is of tests, and every other is the crate's own proof.
@@ -138,12 +138,12 @@ def longest_chain(below, times):
 def table(times):
     """The lines of the table."""
     below = crates()
-    order = sorted(below, key=lambda it: -sum(times.get(it, {}).values()))
+    order = sorted(times, key=lambda it: -sum(times[it].values()))
     yield f"{'crate':24}{'lines':>7}{'proof':>8}{'tests':>8}{'edits':>8}{'sum':>8}{'a 1000':>8}"
     whole = dict.fromkeys(KINDS, 0.0)
     all_lines = 0
     for name in order:
-        row, lines = times.get(name, dict.fromkeys(KINDS, 0.0)), lines_of(name)
+        row, lines = times[name], lines_of(name)
         each = f"{1000 * row['proof'] / lines:8.0f}" if lines and row["proof"] else f"{'-':>8}"
         yield f"{name:24}{lines:7}" + "".join(f"{row[it]:8.0f}" for it in KINDS) + f"{sum(row.values()):8.0f}{each}"
         whole = {it: whole[it] + row[it] for it in KINDS}

@@ -10,6 +10,7 @@ crate and of the libraries besides, and "the rest" is what follows the last. COU
 import os
 import re
 import shutil
+import signal
 import subprocess
 import sys
 import tempfile
@@ -58,6 +59,8 @@ def times(name):
     with tempfile.TemporaryDirectory(prefix="c6x-slow-") as room:
         words = ["rt", "check", "--jobs", "1"]
         ran = subprocess.Popen(words, cwd=copied(room, name), stdout=subprocess.PIPE, stderr=subprocess.STDOUT, errors="replace")
+        # Whoever ends this script ends the check too.
+        signal.signal(signal.SIGTERM, lambda *_: (ran.terminate(), sys.exit(1)))
         found, before, last = [], 0, 0
         for line in ran.stdout:
             now = max(before, ticks_of(ran.pid, name))
