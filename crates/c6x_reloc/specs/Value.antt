@@ -1,7 +1,5 @@
-use Rattle.std.specs.Prelude.{◌≡◌, ℕ, List, slice_index, ◌+◌, ◌-◌, ◌%◌, ◌^◌, ◌==◌, ◌&&◌, not, Bool, false, Result, Ok, Err, ℤ, int_le, if◌then◌else◌}
+use Rattle.std.specs.Prelude.{ℕ, ◌+◌, ◌-◌, ◌%◌, ◌^◌, ◌==◌, ◌&&◌, not, Bool, false, Result, Ok, Err, ℤ, int_le, if◌then◌else◌}
 use Rattle.std.specs.Int.{cast_signed, cast_unsigned, int_shr, w32}
-use Rattle.c6x_spec.specs.Fields.{bits_of}
-use Rattle.c6x_spec.specs.Numbers.{half_at, word_at}
 use Rattle.c6x_reloc.specs.Table.{row_of}
 use Rattle.c6x_reloc.specs.declared.inputs.Inputs.{Inputs}
 use Rattle.c6x_reloc.specs.declared.kind_row.KindRow.{KindRow}
@@ -10,7 +8,6 @@ use Rattle.c6x_reloc.specs.declared.origin.Origin.TheVariants.{Nothing, Absolute
 use Rattle.c6x_reloc.specs.declared.reloc_error.RelocError.{RelocError}
 use Rattle.c6x_reloc.specs.declared.reloc_error.RelocError.TheVariants.{Range, Align, Addend}
 use Rattle.c6x_reloc.specs.declared.reloc_kind.RelocKind.{RelocKind}
-use Rattle.c6x_reloc.specs.declared.reloc_kind.RelocKind.TheVariants.{ABS16, ABS8}
 
 -- A difference modulo 2^32.
 abbrev pub less : ℕ → ℕ → ℕ
@@ -70,15 +67,3 @@ row_value row i =
 -- The value of a kind for these inputs.
 abbrev pub value_of : RelocKind → Inputs → Result ℕ RelocError
 value_of kind i = row_value (row_of kind) i
-
--- The little-endian number at a place of a kind: of two bytes for ABS16, of one for ABS8, else of four.
-abbrev pub number_at : RelocKind → List ℕ → ℕ → ℕ
-number_at ABS16 bytes place = half_at false bytes place
-number_at ABS8 bytes place = slice_index bytes place
-number_at kind bytes place = word_at false bytes place
-
--- The bytes at a place hold a value: its low bits stand in the kind's field. A kind without a field holds
--- always.
-pub record HoldsValue (bytes : List ℕ) (place : ℕ) (kind : RelocKind) (value : ℕ) : Type 0 where
-  pub field :
-      bits_of (number_at kind bytes place) (row_of kind).low (row_of kind).width ≡ value % 2 ^ (row_of kind).width

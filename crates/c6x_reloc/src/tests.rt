@@ -46,11 +46,17 @@ fn values_of_kinds(rt: HostRuntime) {
         ..symbol_at(0)
     };
     assert_eq!(&rt; value(RelocKind::ABS32, &below), Ok(0xFFFF_FFFC));
-    let index = Inputs {
-        index: 5,
-        ..symbol_at(0)
-    };
-    assert_eq!(&rt; value(RelocKind::DSBT_INDEX, &index), Ok(5));
+    for (index, want) in [
+        (5, Ok(5)),
+        (32_767, Ok(32_767)),
+        (32_768, Err(RelocError::Range)),
+    ] {
+        let module = Inputs {
+            index,
+            ..symbol_at(0)
+        };
+        assert_eq!(&rt; value(RelocKind::DSBT_INDEX, &module), want, "at {index}");
+    }
 }
 
 #[test]
@@ -61,4 +67,8 @@ fn fields_of_kinds(rt: HostRuntime) {
     assert_eq!(&rt; width(RelocKind::PCR_S21), 21);
     assert_eq!(&rt; width(RelocKind::NONE), 0);
     assert_eq!(&rt; patch(0x0700_006E, RelocKind::DSBT_INDEX, 5), 0x0700_056E);
+    assert_eq!(&rt;
+        patch(0x0700_006E, RelocKind::DSBT_INDEX, 32_767),
+        0x077F_FF6E
+    );
 }
