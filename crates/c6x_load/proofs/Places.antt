@@ -1,8 +1,6 @@
-use Rattle.std.proofs.Common.{◌≡◌, ℕ, ◌+◌, ◌-◌, ◌*◌, ◌/◌, ◌%◌, ◌<◌, ◌≤◌, max, nat_le, Bool, true, false, refl, sym, ◌∙◌, ap, subst, arith, inl, inr, le-leb, lit≤}
+use Rattle.std.proofs.Common.{◌≡◌, ℕ, ◌+◌, ◌≤◌, max, nat_le, Bool, true, false, refl, sym, ◌∙◌, ap, subst, arith, le-leb, lit≤}
 use Rattle.std.specs.Prelude.{Option, None, Some, ◌↔◌, IfSome, if◌then◌else◌}
 use Rattle.c6x_spec.specs.Options.{◌>>=◌}
-use Rattle.std.proofs.Math.Nat.{add-mod-mod, add-mul-mod_self_left, mod-add-div, mul-le-mul_left, le_antisymm}
-use Rattle.std.proofs.lemmas.Bool.{cases_lt}
 use Rattle.std.proofs.lemmas.Bool.Decides.{nat_tests}
 use Rattle.c6x_module.specs.declared.module.Module.{Module}
 use Rattle.c6x_load.specs.declared.one.One.{One}
