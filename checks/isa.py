@@ -1,5 +1,8 @@
 #!/usr/bin/env python3
-"""Compares decode, encode, effects and split with a reference model, over random and near-valid words.
+"""Compares decode, encode, effects, write_of_load and split with a reference model.
+
+Words are random, near-valid, or drawn for a unit; chains are mostly of words whose units and sides are free, so
+that long packets and each rule of a packet are met often.
 
 Usage: checks/isa.py MODEL [COUNT [SEED]]
 
@@ -10,11 +13,14 @@ how many words to try, at least 200,000 if it is not given. The program `c6x_isa
 import random
 import subprocess
 import sys
+from collections import Counter
 from pathlib import Path
 
 ROOT = Path(__file__).resolve().parent.parent
 PROGRAM = ROOT / "crates" / "c6x_isa_probe" / "out" / "c6x_isa_probe"
 MASK = 0xFFFFFFFF
+# The lengths of packets and the rules that a chain can break, by the names that the program prints.
+ANSWERS = [f"{n} words" for n in range(1, 9)] + ["BadWord", "TooLong", "UnitTwice", "SameSide", "CrossTwice"]
 
 
 def truth(value):
@@ -74,6 +80,17 @@ def show_effects(e):
             f"access: {show_access(e.access)}, target: {target}, wait: {e.wait} }}")
 
 
+def write_of_load(model, access, number):
+    """What a load writes where it read the low bytes of a number: the number with its sign, four slots later."""
+    if access is None or type(access.job).__name__ != "Load":
+        return None
+    bits = 8 * access.size
+    read = number % (1 << bits)
+    if access.job.signed and read >> (bits - 1):
+        read += (1 << 32) - (1 << bits)
+    return model.Write(access.job.side, access.job.register, read, 4)
+
+
 def drawn(seed):
     """The registers that the program draws from a seed."""
     regs, x = [0] * 64, seed
@@ -118,21 +135,59 @@ def near_valid(rng):
     return w & MASK
 
 
-def chain(rng, spelled):
-    """One to eight words, mostly ones that spell, with the p bits of a chain."""
+class Unit:
+    """The words of one unit of one side: all, those that get in the way of no other unit, and the others."""
+
+    def __init__(self):
+        self.words, self.quiet, self.loud = [], [], []
+
+
+def by_unit(model, spelled):
+    """The spelled words under their units; a NOP, which has none, stands under a name of its own."""
+    units = {}
+    for word in spelled:
+        op = model.decode(word).op
+        name = model.unit_of(op) or ("NOP", "")
+        unit = units.setdefault(name, Unit())
+        unit.words.append(word)
+        crossed = model.cross_read(op) is not None
+        away = getattr(op, "value_side", name[1]) != name[1]
+        (unit.loud if crossed or away else unit.quiet).append(word)
+    return [units[name] for name in sorted(units)]
+
+
+def chain(rng, units):
+    """One to eight words of units that differ, with the p bits of a chain; in every other one a fault is sought."""
+    fault = rng.randrange(12)
+    loudness = 0.7 if fault >= 10 else 0.05
     words = []
-    for _ in range(rng.randint(1, 8)):
-        w = rng.choice(spelled) if rng.random() < 0.97 else rng.getrandbits(32)
-        words.append(w | 1)
-    if len(words) < 8 or rng.random() < 0.9:
+    for unit in rng.sample(units, rng.randint(1, min(8, len(units)))):
+        words.append(rng.choice(unit.loud if unit.loud and rng.random() < loudness else unit.quiet or unit.words))
+    place = rng.randrange(len(words))
+    if fault == 0:
+        words[place] = rng.getrandbits(32) | 0xE000_0000
+    elif fault == 1:
+        words[place] = rng.choice(rng.choice(units).words)
+    elif fault == 2:
+        for n in range(len(words), 8):
+            words.append(rng.choice(rng.choice(units).words))
+    elif fault == 3:
+        for n in range(len(words)):
+            words[n] = rng.choice(rng.choice(units).words)
+    words = [word | 1 for word in words]
+    if len(words) < 8 or rng.random() < 0.8:
         words[-1] &= ~1
     return words
 
 
-def expected_split(model, words):
+def expected_split(model, words, met):
+    """The answer for a chain; `met` counts how often a length and a rule were the answer."""
     try:
-        return str(len(model.split(words)))
+        length = len(model.split(words))
+        met[f"{length} words"] += 1
+        return str(length)
     except model.PacketRefusal as refusal:
+        met[refusal.name] += 1
         if refusal.place is None:
             return refusal.name
         return f"{refusal.name} {{ place: {refusal.place} }}"
@@ -161,11 +216,13 @@ def main():
             continue
         spelled.append(word)
         done = model.effects(instr, at, (at + 4) & MASK, drawn(seed))
-        expected.append(f"{model.encode(instr):08x} {show_instr(instr)} {show_effects(done)}")
+        loaded = show_write(write_of_load(model, done.access, seed))
+        expected.append(f"{model.encode(instr):08x} {show_instr(instr)} {show_effects(done)} {loaded}")
+    units, met = by_unit(model, spelled), Counter()
     for _ in range(count // 8):
-        words = chain(rng, spelled)
+        words = chain(rng, units)
         lines.append("split " + " ".join(f"{w:x}" for w in words))
-        expected.append(expected_split(model, words))
+        expected.append(expected_split(model, words, met))
     run = subprocess.run([PROGRAM], input="\n".join(lines) + "\n", capture_output=True, text=True, check=True)
     answers = run.stdout.splitlines()
     different = [n for n in range(len(lines)) if n >= len(answers) or answers[n] != expected[n]]
@@ -174,7 +231,12 @@ def main():
     if different or len(answers) != len(lines):
         print(f"{len(different)} of {len(lines)} answers differ")
         return 1
+    rare = [answer for answer in ANSWERS if met[answer] * 500 < count // 8]
+    if rare:
+        print(f"too few chains have the answer {', '.join(rare)}: {dict(met)}")
+        return 1
     print(f"{count} words, of which {len(spelled)} were spelled, and {count // 8} chains: no difference")
+    print("chains: " + ", ".join(f"{answer} {met[answer]}" for answer in ANSWERS))
     return 0
 
 

@@ -1,14 +1,17 @@
 //! Answers of the instruction table, for comparison with another table.
 //!
 //! Each line of input is `word WORD AT SEED`, `split` and one to eight words, or `count NUMBER SEED`,
-//! in hexadecimal. For a word it prints its word again, the instruction, and what it does at the
-//! address AT with registers drawn from the seed; for a chain of words, its packet's length or the
-//! rule it breaks; and for a count, how many of so many drawn words spell an instruction.
+//! in hexadecimal. For a word it prints its word again, the instruction, what it does at the
+//! address AT with registers drawn from the seed, and what a load writes then of the seed's low
+//! bytes; for a chain of words, its packet's length or the rule it breaks; and for a count, how many
+//! of so many drawn words spell an instruction.
 
 #![tactic(auto)]
 
+ghost use Rattle.c6x_instr.specs.Rows.{FitsAccess};
+
 use c6x_base::Side;
-use c6x_isa::{Regs, decode, effects, encode};
+use c6x_isa::{MemOp, Regs, Write as RegisterWrite, decode, effects, encode, write_of_load};
 use c6x_packet::{is_chain, split};
 use std::alloc::Global;
 use std::io::{self, BufRead, BufReader, BufWriter, Write};
@@ -47,10 +50,23 @@ fn answer_word<W: Write>(out: &mut W, word: u32, at: u32, seed: u32) -> io::Resu
         Some(instr) => {
             let again = encode(&instr);
             let done = effects(&instr, at, at.wrapping_add(4), &drawn(seed));
-            writeln!(out, "{again:08x} {instr:?} {done:?}")
+            let loaded = done.access.and_then(|access| loaded(access, seed));
+            writeln!(out, "{again:08x} {instr:?} {done:?} {loaded:?}")
         }
         None => writeln!(out, "none"),
     }
+}
+
+/// What the access writes to a register, where it read the low bytes of a number.
+fn loaded(access: MemOp, number: u32) -> Option<RegisterWrite>
+    requires { FitsAccess access }
+{
+    let read = match access.size {
+        1 => number % 0x100,
+        2 => number % 0x1_0000,
+        _ => number,
+    };
+    write_of_load(access, read)
 }
 
 /// The number behind this one in a drawn row of numbers.

@@ -1,14 +1,23 @@
 use crate::{PacketError, is_chain, split};
 use c6x_base::Side;
-use c6x_isa::{Access, Cond, Instr, MoveKind, Op, decode, encode};
+use c6x_isa::{Access, Cond, Instr, MoveKind, Op, decode, encode, is_valid};
 
 /// The instruction with no condition and nothing chained to it.
-fn alone(op: Op) -> Option<Instr> {
-    Some(Instr {
+fn alone(op: Op) -> Instr {
+    Instr {
         condition: Cond::Always,
         op,
         chained: false,
-    })
+    }
+}
+
+/// The word of an instruction, if there is one.
+fn word_of(instr: Instr) -> Option<u32> {
+    if is_valid(&instr) {
+        Some(encode(&instr))
+    } else {
+        None
+    }
 }
 
 /// The rule that a chain breaks.
@@ -37,18 +46,25 @@ fn known_words(rt: HostRuntime) {
         base: 15,
         register: 3,
     };
-    let branch = Op::BranchRegNop {
+    let branch = Op::BranchReg {
+        cross: false,
+        source: 3,
+    };
+    let waiting = Op::BranchRegNop {
         cross: false,
         source: 3,
         wait: 5,
     };
-    assert!(&rt; decode(0x0200_02A8) == alone(mvk));
-    assert!(&rt; decode(0x008C_A362) == alone(branch));
-    assert!(&rt; decode(0x01BC_54F6) == alone(store));
-    assert!(&rt; decode(0xE000_0000).is_none());
-    if let Some(instr) = decode(0x000C_0362) {
-        assert_eq!(&rt; encode(&instr), 0x000C_0362);
+    for (word, op) in [
+        (0x0200_02A8, mvk),
+        (0x008C_A362, waiting),
+        (0x000C_0362, branch),
+        (0x01BC_54F6, store),
+    ] {
+        assert!(&rt; decode(word) == Some(alone(op)), "{word:08x}");
+        assert!(&rt; word_of(alone(op)) == Some(word), "{word:08x}");
     }
+    assert!(&rt; decode(0xE000_0000).is_none());
 }
 
 #[test]
