@@ -3,17 +3,18 @@ use Rattle.std.specs.List.{fold, list_all, position}
 use Rattle.std.specs.Option.{option_map}
 use Rattle.std.specs.Str.{bytes_eq}
 use Rattle.c6x_spec.specs.Options.{◌>>=◌}
+use Rattle.c6x_base.specs.declared.limits.TheConstants.{MOST_NAME_BYTES}
 
 -- A piece of a text is what stands in front of the first byte of this value; with it comes what stands behind.
 unfoldable pub until : ℕ → List ℕ → Option (List ℕ × List ℕ)
 until end text = option_map (λ place. (take place text, drop (place + 1) text)) (position (λ byte. byte == end) text)
 
--- A name: 1 to 64 bytes that show and are no space.
+-- A name: at least one byte, and at most as many as a name may have, that show and are no space.
 abbrev pub is_shown : ℕ → Bool
 is_shown byte = nat_le 33 byte && nat_le byte 126
 
 unfoldable pub is_name : List ℕ → Bool
-is_name bytes = nat_le 1 (length bytes) && nat_le (length bytes) 64 && list_all is_shown bytes
+is_name bytes = nat_le 1 (length bytes) && nat_le (length bytes) MOST_NAME_BYTES && list_all is_shown bytes
 
 -- A number: one to ten decimal digits, the first worth most.
 abbrev pub is_digit : ℕ → Bool

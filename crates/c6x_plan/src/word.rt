@@ -3,6 +3,8 @@ ghost use Rattle.std.specs.List.{list_all, position};
 ghost use Rattle.c6x_plan.specs.Answer.{Gives};
 ghost use Rattle.c6x_plan.specs.Words.{until, is_shown, is_name, key, name};
 
+use c6x_base::limits::MOST_NAME_BYTES;
+
 /// Where the first byte of this value stands.
 fn place_of(text: &[u8], end: u8) -> Option<usize>
     ensures value { result ≡ position (λ byte. byte == end) text.now }
@@ -34,7 +36,7 @@ pub fn key<'a>(text: &'a [u8], word: &[u8], end: u8) -> Option<&'a [u8]>
 fn is_name(bytes: &[u8]) -> bool
     ensures { result ≡ is_name bytes.now }
 {
-    1 <= bytes.len() && bytes.len() <= 64 && are_shown(bytes)
+    1 <= bytes.len() && bytes.len() <= MOST_NAME_BYTES as usize && are_shown(bytes)
 }
 
 /// The bytes show, and none is a space.
