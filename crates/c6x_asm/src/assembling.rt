@@ -1,4 +1,4 @@
-ghost use Rattle.std.specs.Prelude.{◌^◌, ◌<◌, length, IfOk};
+ghost use Rattle.std.specs.Prelude.{◌^◌, false, ◌<◌, length, IfOk};
 ghost use Rattle.c6x_elf.specs.Form.{IsTidy};
 ghost use Rattle.c6x_asm_steps.specs.States.{state_of};
 ghost use Rattle.c6x_asm.specs.Objects.{Answers, assembled};
@@ -14,7 +14,7 @@ use std::alloc::Global;
 pub fn assemble(alloc: Global, text: &[u8]) -> Result<File, AsmError>
     requires { length text.now < 2 ^ 32 }
     ensures is { Answers result (assembled text.now) }
-    ensures tidy { IfOk result IsTidy }
+    ensures tidy { IfOk result (IsTidy false) }
 {
     let object = read(alloc, text)?;
     let file = file_of(

@@ -3,8 +3,8 @@ use Rattle.std.proofs.Common.{◌≡◌, ℕ, ◌+◌, ◌^◌, ◌<◌, false, 
 use Rattle.std.specs.Int.{to_le_bytes, w16, w32}
 use Rattle.std.proofs.lemmas.Nat.{from_le_bytes-to_le_bytes_2, from_le_bytes-to_le_bytes_4}
 use Rattle.c6x_spec.specs.Numbers.{half_at, word_at}
-use Rattle.c6x_elf_layout.specs.Laid.{Holds}
-use Rattle.c6x_elf_layout.proofs.Holdings.{holds_byte}
+use Rattle.c6x_elf_entries.specs.Held.{Holds}
+use Rattle.c6x_elf_entries.proofs.Holdings.{holds_byte}
 
 pub word_read : (bytes : List ℕ) (at n : ℕ) → n < 2 ^ 32 → Holds bytes at (to_le_bytes w32 n) → word_at false bytes at ≡ n
 unfolding word_at

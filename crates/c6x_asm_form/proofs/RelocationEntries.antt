@@ -9,8 +9,8 @@ use Rattle.c6x_spec.specs.Numbers.{word_at}
 use Rattle.c6x_elf_headers.specs.Rules.{first_along}
 use Rattle.c6x_elf_headers.specs.declared.elf_rule.ElfRule.TheVariants.{Index}
 use Rattle.c6x_elf_headers.specs.declared.section_head.SectionHead.{SectionHead}
-use Rattle.c6x_elf_layout.specs.Laid.{Holds}
-use Rattle.c6x_elf_layout.proofs.Holdings.{holds_all, holds_left, holds_right}
+use Rattle.c6x_elf_entries.specs.Held.{Holds}
+use Rattle.c6x_elf_entries.proofs.Holdings.{holds_all, holds_left, holds_right}
 use Rattle.c6x_elf_layout.proofs.Passing.{must_is}
 use Rattle.c6x_elf.specs.Entries.{rela_refusal, relas_refusal, symbols_in}
 use Rattle.c6x_elf.specs.declared.section.Section.{Section}

@@ -9,8 +9,8 @@ use Rattle.c6x_spec.specs.Numbers.{half_at, word_at}
 use Rattle.c6x_elf_headers.specs.Rules.{first_along, must}
 use Rattle.c6x_elf_headers.specs.declared.elf_rule.ElfRule.TheVariants.{Index}
 use Rattle.c6x_elf_headers.specs.declared.section_head.SectionHead.{SectionHead}
-use Rattle.c6x_elf_layout.specs.Laid.{Holds}
-use Rattle.c6x_elf_layout.proofs.Holdings.{holds_left, holds_right, holds_all}
+use Rattle.c6x_elf_entries.specs.Held.{Holds}
+use Rattle.c6x_elf_entries.proofs.Holdings.{holds_left, holds_right, holds_all}
 use Rattle.c6x_elf_layout.proofs.Passing.{must_is}
 use Rattle.c6x_elf.specs.Entries.{is_section_number, name_refusal, symbol_refusal, symbols_refusal, text_of}
 use Rattle.c6x_elf.specs.declared.section.Section.{Section}

@@ -5,8 +5,8 @@ use Rattle.std.specs.List.{list_any}
 use Rattle.std.proofs.lemmas.Bool.Decides.{nat_tests}
 use Rattle.c6x_elf_headers.specs.Header.{is_file_type, is_none_or_below}
 use Rattle.c6x_elf_headers.specs.Rules.{along_both, first_along}
-use Rattle.c6x_elf_layout.specs.Laid.{Holds}
-use Rattle.c6x_elf_layout.proofs.Holdings.{holds_all, holds_right}
+use Rattle.c6x_elf_entries.specs.Held.{Holds}
+use Rattle.c6x_elf_entries.proofs.Holdings.{holds_all, holds_right}
 use Rattle.c6x_elf.specs.Entries.{entries_refusal, named_refusal, own_name_refusal, text_of}
 use Rattle.c6x_elf.specs.Form.{IsSized, IsTidy, own_head, section_length}
 use Rattle.c6x_elf.specs.Parts.{fields_refusal}
@@ -115,7 +115,7 @@ names_below : (names count : ℕ) → names < count → IsTrue (is_none_or_below
 unfolding is_none_or_below
 names_below names count below = grind (arith, nat_tests)
 
-tidy_with : (names : ℕ) (all : List Section) → names < length all → IsLimited (file_with names all) → AllKept all names → IsTidy (file_with names all)
+tidy_with : (names : ℕ) (all : List Section) → names < length all → IsLimited (file_with names all) → AllKept all names → IsTidy false (file_with names all)
 tidy_with names all below limits kept =
     let count : length all ≤ 4096 = limits.count in
     let small : written_size (file_with names all) ≤ 4194304 = limits.small in
@@ -145,7 +145,7 @@ names_short text ps names short =
     omega arith
 
 -- the limits leave only the last of the sections' numbers
-tidy_within : (text : List ℕ) (ps : List Part) (names : List Symbol) → AreSound ps names → IsLimited (file_with ((symtab_of ps + 2) % 65536) (sections_all text ps names)) → IsTidy (file_with ((symtab_of ps + 2) % 65536) (sections_all text ps names))
+tidy_within : (text : List ℕ) (ps : List Part) (names : List Symbol) → AreSound ps names → IsLimited (file_with ((symtab_of ps + 2) % 65536) (sections_all text ps names)) → IsTidy false (file_with ((symtab_of ps + 2) % 65536) (sections_all text ps names))
 tidy_within text ps names sound limits =
     let all = sections_all text ps names in
     let most : length all ≤ 4096 = limits.count in
@@ -158,7 +158,7 @@ tidy_within text ps names sound limits =
     tidy_with ((symtab_of ps + 2) % 65536) all (omega arith) limits (subst (AllKept all) (sym number) kept)
 
 -- sound sections and symbols within the limits make a tidy file
-pub tidy : (text : List ℕ) (ps : List Part) (names : List Symbol) → AreSound ps names → is_large text ps names ≡ false → IsTidy (file_of text ps names)
+pub tidy : (text : List ℕ) (ps : List Part) (names : List Symbol) → AreSound ps names → is_large text ps names ≡ false → IsTidy false (file_of text ps names)
 unfolding is_large file_of sections_of
 tidy text ps names sound small =
     tidy_within text ps names sound (limited (file_with ((symtab_of ps + 2) % 65536) (sections_all text ps names)) small)

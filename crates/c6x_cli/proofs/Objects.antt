@@ -1,4 +1,4 @@
-use Rattle.std.proofs.Common.{◌≡◌, ℕ, List, [], ◌∷◌, refl}
+use Rattle.std.proofs.Common.{◌≡◌, ℕ, false, List, [], ◌∷◌, refl}
 use Rattle.std.specs.Prelude.{Ok}
 use Rattle.c6x_spec.specs.Files.{Files}
 use Rattle.c6x_asm.specs.Objects.{assembled}
@@ -10,7 +10,7 @@ use Rattle.c6x_cli.specs.Assembling.{object_bytes, or_broken, within_most}
 use Rattle.c6x_cli.specs.Steps.{fetched, IsOwn, Stops}
 
 -- where every step has its value, so has the whole
-pub object_is_made : (files : Files) (name bytes text : List ℕ) (object : File) → fetched files name ≡ Ok bytes → within_most name bytes ≡ Ok text → or_broken name (assembled text) ≡ Ok object → object_bytes files name ≡ Ok (written object)
+pub object_is_made : (files : Files) (name bytes text : List ℕ) (object : File) → fetched files name ≡ Ok bytes → within_most name bytes ≡ Ok text → or_broken name (assembled text) ≡ Ok object → object_bytes files name ≡ Ok (written false object)
 unfolding object_bytes
 object_is_made files name bytes text object a b c = rw (a, b, c) refl
 

@@ -1,4 +1,4 @@
-use Rattle.std.specs.Prelude.{ℕ, List, length, nat_le, Result, Ok, Err, if◌then◌else◌}
+use Rattle.std.specs.Prelude.{ℕ, false, List, length, nat_le, Result, Ok, Err, if◌then◌else◌}
 use Rattle.c6x_spec.specs.Files.{Files}
 use Rattle.c6x_spec.specs.Results.{◌>>=◌}
 use Rattle.c6x_asm.specs.Objects.{assembled}
@@ -33,4 +33,4 @@ object_bytes files name = do
   bytes ← fetched files name
   text ← within_most name bytes
   object ← or_broken name (assembled text)
-  Ok (written object)
+  Ok (written false object)

@@ -1,4 +1,4 @@
-ghost use Rattle.std.specs.Prelude.{◌≡◌, ℕ, ◌<◌, ◌≤◌, ◌^◌, Bool, List, [], ◌∷◌, length, nat_le, Some, IsTrue, IfOk, IfErr};
+ghost use Rattle.std.specs.Prelude.{◌≡◌, ℕ, ◌<◌, ◌≤◌, ◌^◌, Bool, false, List, [], ◌∷◌, length, nat_le, Some, IsTrue, IfOk, IfErr};
 ghost use Rattle.c6x_spec.specs.Files.{Files};
 ghost use Rattle.c6x_asm.specs.Objects.{assembled};
 ghost use Rattle.c6x_elf.specs.Form.{IsTidy};
@@ -60,7 +60,7 @@ fn object_of(alloc: Global, name: &Name, text: &[u8]) -> Result<File, Stop>
     requires { length text.now < 2 ^ 32 }
     ensures gives { Gives (λ object. object) result (or_broken name.now (assembled text.now)) [] }
     ensures own { IfErr result IsOwn }
-    ensures tidy { IfOk result IsTidy }
+    ensures tidy { IfOk result (IsTidy false) }
 {
     match assemble(alloc, text) {
         Ok(object) => Ok(object),
@@ -73,8 +73,8 @@ fn object_of(alloc: Global, name: &Name, text: &[u8]) -> Result<File, Stop>
 
 /// The bytes of an object.
 fn written_object(alloc: Global, object: &File) -> Result<Bytes, Stop>
-    requires { IsTidy object.now }
-    ensures gives { IfOk result (λ bytes. bytes ≡ written object.now) }
+    requires { IsTidy false object.now }
+    ensures gives { IfOk result (λ bytes. bytes ≡ written false object.now) }
     ensures memory { IfErr result (λ stop. stop ≡ memory) }
 {
     match write_file(alloc, object) {

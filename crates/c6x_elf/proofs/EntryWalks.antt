@@ -120,7 +120,7 @@ behind-le : (b rest n : ℕ) → rest ≤ n → end_behind b rest ≤ suc n
 behind-le b zero n within = elim (b == 0) as (λ t. cond t 1 0 ≤ suc n) [ true ↦ omega arith | false ↦ omega arith ]
 behind-le b (suc rest) n within = omega arith
 
-name_end-le : (table : List ℕ) → name_end table ≤ length table
+pub name_end-le : (table : List ℕ) → name_end table ≤ length table
 name_end-le [] = omega arith
 name_end-le (b ∷ bs) = behind-le b (name_end bs) (length bs) (name_end-le bs)
 

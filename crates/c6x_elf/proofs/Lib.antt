@@ -1,10 +1,13 @@
+pub mod Alone
 pub mod EntryWalks
 pub mod Kept
 pub mod Moves
 pub mod Orders
+pub mod Packed
 pub mod Placed
 pub mod Puts
 pub mod ReadForm
 pub mod Spots
+pub mod Unpacked
 pub mod Walks
 pub mod WayBack

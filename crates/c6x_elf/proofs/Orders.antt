@@ -6,8 +6,8 @@ use Rattle.c6x_elf_headers.specs.declared.section_head.SectionHead.{SectionHead}
 use Rattle.c6x_elf_headers.specs.declared.segment_head.SegmentHead.{SegmentHead}
 use Rattle.c6x_elf_layout.specs.HeadRows.{file_counts, file_kinds, file_row, file_words, ident, section_rows, section_words, segment_rows, segment_words}
 use Rattle.c6x_elf_layout.specs.Laid.{InOrder, Part, laid}
-use Rattle.c6x_elf_layout.specs.Rows.{half_row, word_row}
-use Rattle.c6x_elf_layout.proofs.NumberRows.{length-half_row, length-word_row}
+use Rattle.c6x_elf_entries.specs.Rows.{half_row, word_row}
+use Rattle.c6x_elf_entries.proofs.NumberRows.{length-half_row, length-word_row}
 use Rattle.c6x_elf.specs.Parts.{has_bytes}
 use Rattle.c6x_elf.specs.Writing.{end_of, front_part, head_of, home_of, offset_end, offset_of, offsets, offsets_end, offsets_of, section_heads_at, section_parts, sections_at, sections_end, segment_heads_at, segment_parts, segments_end, spot_from, spot_of, spots, spots_end, spots_of, start_of, step_of, table_parts, with_section, with_segment, written, written_size}
 use Rattle.c6x_elf.specs.declared.file.File.{File}
@@ -147,19 +147,19 @@ length-table file =
     length-section_rows false (section_heads_at (sections_at file) 0 file.sections (offsets_of file))
     ∙ ap (λ n. 40 * n) (length-section_heads_at (sections_at file) 0 file.sections (offsets_of file) (length-offsets (segments_end file) file.sections))
 
-table_chain : (file : File) → Chain (sections_end file) (table_parts file) (written_size file)
+table_chain : (file : File) → Chain (sections_end file) (table_parts false file) (written_size file)
 unfolding table_parts written_size sections_at
 table_chain file =
     table_chain_if (length file.sections == 0) (sections_end file) (length file.sections)
     (section_rows false (section_heads_at (sections_at file) 0 file.sections (offsets_of file))) (length-table file)
 
 -- the parts of a file
-pub file_chain : (file : File) → Chain (start_of file) (segment_parts file.segments (spots_of file) ++ (section_parts file.sections (offsets_of file) ++ table_parts file)) (written_size file)
+pub file_chain : (file : File) → Chain (start_of file) (segment_parts file.segments (spots_of file) ++ (section_parts file.sections (offsets_of file) ++ table_parts false file)) (written_size file)
 file_chain file =
-    spots_chain [] [] (start_of file) file.segments (section_parts file.sections (offsets_of file) ++ table_parts file) (written_size file)
-    (offsets_chain (segments_end file) file.sections (table_parts file) (written_size file) (table_chain file))
+    spots_chain [] [] (start_of file) file.segments (section_parts file.sections (offsets_of file) ++ table_parts false file) (written_size file)
+    (offsets_chain (segments_end file) file.sections (table_parts false file) (written_size file) (table_chain file))
 
-pub length-front : (file : File) → length (front_part file).bytes ≡ start_of file
+pub length-front : (file : File) → length (front_part false file).bytes ≡ start_of file
 unfolding front_part
 length-front file =
     let rows = segment_rows false (segment_heads_at 52 0 file.segments (spots_of file)) in
@@ -171,32 +171,32 @@ length-front file =
       length-segment_heads_at 52 0 file.segments (spots_of file) (length-spots [] [] (start_of file) file.segments),
     )
 
-pub front-at : (file : File) → (front_part file).at ≡ 0
+pub front-at : (file : File) → (front_part false file).at ≡ 0
 unfolding front_part
 front-at file = refl
 
-pub written_chain : (file : File) → Chain 0 (front_part file ∷ (segment_parts file.segments (spots_of file) ++ (section_parts file.sections (offsets_of file) ++ table_parts file))) (written_size file)
+pub written_chain : (file : File) → Chain 0 (front_part false file ∷ (segment_parts file.segments (spots_of file) ++ (section_parts file.sections (offsets_of file) ++ table_parts false file))) (written_size file)
 written_chain file =
-    let rest = segment_parts file.segments (spots_of file) ++ (section_parts file.sections (offsets_of file) ++ table_parts file) in
+    let rest = segment_parts file.segments (spots_of file) ++ (section_parts file.sections (offsets_of file) ++ table_parts false file) in
     let P : ℕ → Type 0 = λ from. Chain from rest (written_size file) in
-    let end : start_of file ≡ (front_part file).at + length (front_part file).bytes = omega (arith, front-at file, length-front file) in
+    let end : start_of file ≡ (front_part false file).at + length (front_part false file).bytes = omega (arith, front-at file, length-front file) in
     (omega arith, subst P end (file_chain file))
 
-pub length-written : (file : File) → length (written file) ≡ written_size file
+pub length-written : (file : File) → length (written false file) ≡ written_size file
 unfolding written
 length-written file =
-    let rest = segment_parts file.segments (spots_of file) ++ (section_parts file.sections (offsets_of file) ++ table_parts file) in
-    sym (zero-add (length (laid 0 (front_part file ∷ rest)))) ∙ chain_length 0 (front_part file ∷ rest) (written_size file) (written_chain file)
+    let rest = segment_parts file.segments (spots_of file) ++ (section_parts file.sections (offsets_of file) ++ table_parts false file) in
+    sym (zero-add (length (laid 0 (front_part false file ∷ rest)))) ∙ chain_length 0 (front_part false file ∷ rest) (written_size file) (written_chain file)
 
 -- the bytes of a file, front first
-pub written_from : (file : File) (front : List ℕ) (from : ℕ) → front ≡ (front_part file).bytes → from ≡ start_of file → front ++ laid from (segment_parts file.segments (spots_of file) ++ (section_parts file.sections (offsets_of file) ++ table_parts file)) ≡ written file
+pub written_from : (file : File) (front : List ℕ) (from : ℕ) → front ≡ (front_part false file).bytes → from ≡ start_of file → front ++ laid from (segment_parts file.segments (spots_of file) ++ (section_parts file.sections (offsets_of file) ++ table_parts false file)) ≡ written false file
 unfolding written
 written_from file front from is at =
-    let rest = segment_parts file.segments (spots_of file) ++ (section_parts file.sections (offsets_of file) ++ table_parts file) in
-    let end : from ≡ (front_part file).at + length (front_part file).bytes = omega (arith, front-at file, length-front file) in
-    let gap : replicate ((front_part file).at - 0) 0 ≡ [] = ap (λ n. replicate (n - 0) 0) (front-at file) in
-    ap (λ n. front ++ laid n rest) end ∙ ap (λ xs. xs ++ laid ((front_part file).at + length (front_part file).bytes) rest) is
-    ∙ ap (λ zeros. zeros ++ ((front_part file).bytes ++ laid ((front_part file).at + length (front_part file).bytes) rest)) (sym gap)
+    let rest = segment_parts file.segments (spots_of file) ++ (section_parts file.sections (offsets_of file) ++ table_parts false file) in
+    let end : from ≡ (front_part false file).at + length (front_part false file).bytes = omega (arith, front-at file, length-front file) in
+    let gap : replicate ((front_part false file).at - 0) 0 ≡ [] = ap (λ n. replicate (n - 0) 0) (front-at file) in
+    ap (λ n. front ++ laid n rest) end ∙ ap (λ xs. xs ++ laid ((front_part false file).at + length (front_part false file).bytes) rest) is
+    ∙ ap (λ zeros. zeros ++ ((front_part false file).bytes ++ laid ((front_part false file).at + length (front_part false file).bytes) rest)) (sym gap)
 
 -- the section headers lie in the written form
 fits_if : (none : Bool) (end n : ℕ) → none ≡ false → cond none end (rounded end 4 + 40 * n) ≤ 4194304 → cond none 0 (rounded end 4) + 40 * n ≤ 4194304

@@ -2,7 +2,7 @@ use Rattle.std.proofs.Common.{◌≡◌, ℕ, cond, ◌+◌, ◌*◌, ◌<◌, �
 use Rattle.std.proofs.lemmas.List.{drop_more}
 use Rattle.c6x_elf_layout.specs.HeadRows.{SectionsFit, SegmentsFit, section_rows, section_words, segment_rows, segment_words}
 use Rattle.c6x_elf_layout.specs.Laid.{InOrder, Part, laid}
-use Rattle.c6x_elf_layout.specs.Rows.{AreWords, word_row}
+use Rattle.c6x_elf_entries.specs.Rows.{AreWords, word_row}
 use Rattle.c6x_elf_headers.specs.declared.section_head.SectionHead.{SectionHead}
 use Rattle.c6x_elf_headers.specs.declared.segment_head.SegmentHead.{SegmentHead}
 use Rattle.c6x_elf.specs.Parts.{has_bytes}

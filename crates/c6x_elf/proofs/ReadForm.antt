@@ -178,7 +178,7 @@ sections_keep_of bytes head few kept =
     (sections_kept bytes head kept)
 
 -- a file whose parts break no rule has read form
-pub parts_have_form : (bytes : List ℕ) (head : FileHead) → HeadKeeps head → parts_refusal false bytes head ≡ None → HasReadForm (file_with false bytes head)
+pub parts_have_form : (bytes : List ℕ) (head : FileHead) → HeadKeeps head → parts_refusal false bytes head ≡ None → HasReadForm false (file_with false bytes head)
 unfolding file_with sections_of
 parts_have_form bytes head keeps kept =
     let parts = parts_kept bytes head kept in

@@ -10,9 +10,10 @@ use Rattle.c6x_elf_headers.specs.declared.section_head.SectionHead.{SectionHead}
 use Rattle.c6x_elf_headers.specs.declared.segment_head.SegmentHead.{SegmentHead}
 use Rattle.c6x_elf_headers.proofs.Rows.{section_heads_none, segment_heads_none}
 use Rattle.c6x_elf_layout.specs.HeadRows.{file_row, section_rows, segment_rows}
-use Rattle.c6x_elf_layout.specs.Laid.{AllHeld, Holds}
+use Rattle.c6x_elf_entries.specs.Held.{Holds}
+use Rattle.c6x_elf_layout.specs.Laid.{AllHeld}
 use Rattle.c6x_elf_layout.proofs.HeadRows.{ReadsHead, file_held, file_read, sections_held as section_heads_held, segments_held as segment_heads_held}
-use Rattle.c6x_elf_layout.proofs.Holdings.{holds_all, holds_left, holds_right, holds_within}
+use Rattle.c6x_elf_entries.proofs.Holdings.{holds_all, holds_left, holds_right, holds_within}
 use Rattle.c6x_elf_layout.proofs.Layouts.{laid_held}
 use Rattle.c6x_elf_layout.proofs.Passing.{header_passes, is_little, must_is}
 use Rattle.c6x_elf.specs.Entries.{named_refusal}
@@ -62,7 +63,7 @@ table_case bytes n at true heads none count reads held =
     ap (section_heads false bytes at) zero ∙ section_heads_none false bytes at ∙ sym (nil_from_length heads (count ∙ zero))
 table_case bytes n at false heads some count reads held = ap (section_heads false bytes at) (sym count) ∙ reads held.0
 
-back_sections : (file : File) (bytes : List ℕ) → FileSizes file → AllHeld bytes (table_parts file) → section_heads_of false bytes (head_of file) ≡ section_heads_at (sections_at file) 0 file.sections (offsets_of file)
+back_sections : (file : File) (bytes : List ℕ) → FileSizes file → AllHeld bytes (table_parts false file) → section_heads_of false bytes (head_of file) ≡ section_heads_at (sections_at file) 0 file.sections (offsets_of file)
 unfolding section_heads_of head_of table_parts
 back_sections file bytes sizes held =
     let heads = section_heads_at (sections_at file) 0 file.sections (offsets_of file) in
@@ -79,16 +80,16 @@ back_table_room : (file : File) (bytes : List ℕ) → length bytes ≡ written_
 unfolding written_size sections_at
 back_table_room file bytes long some = room_if (length file.sections == 0) (sections_end file) (length file.sections) (length bytes) some long
 
-front_held : (file : File) (bytes : List ℕ) → Holds bytes (front_part file).at (front_part file).bytes → Holds bytes 0 (file_row false (head_of file) ++ segment_rows false (segment_heads_at 52 0 file.segments (spots_of file)))
+front_held : (file : File) (bytes : List ℕ) → Holds bytes (front_part false file).at (front_part false file).bytes → Holds bytes 0 (file_row false (head_of file) ++ segment_rows false (segment_heads_at 52 0 file.segments (spots_of file)))
 unfolding front_part
 front_held file bytes held = held
 
-file_back : (file : File) (bytes : List ℕ) → bytes ≡ written file → IsTidy file → FileSizes file → IsBack file bytes
+file_back : (file : File) (bytes : List ℕ) → bytes ≡ written false file → IsTidy false file → FileSizes file → IsBack file bytes
 unfolding written
 file_back file bytes is tidy sizes =
     let segments = segment_parts file.segments (spots_of file) in
     let sections = section_parts file.sections (offsets_of file) in
-    let parts = front_part file ∷ (segments ++ (sections ++ table_parts file)) in
+    let parts = front_part false file ∷ (segments ++ (sections ++ table_parts false file)) in
     let P : List ℕ → Type 0 = λ xs. Holds bytes 0 xs in
     let all : AllHeld bytes parts = laid_held bytes 0 parts (subst P is (holds_all bytes)) (chain_order 0 parts (written_size file) (written_chain file)) in
     let size : length bytes ≡ written_size file = ap length is ∙ length-written file in
@@ -97,17 +98,17 @@ file_back file bytes is tidy sizes =
     let head = holds_left bytes 0 (file_row false (head_of file)) rows front in
     let table = holds_right bytes 0 (file_row false (head_of file)) rows 52 front
     (zero-add (length (file_row false (head_of file))) ∙ length-file_row false (head_of file)) in
-    let later = held_back bytes segments (sections ++ table_parts file) all.1 in
+    let later = held_back bytes segments (sections ++ table_parts false file) all.1 in
     record {
       reads = file_held false bytes (head_of file) sizes.head head;
       long = omega (arith, holds_within bytes 0 (file_row false (head_of file)) head, length-file_row false (head_of file));
       short = omega (arith, size, tidy.small);
-      room = omega (arith, holds_within bytes (front_part file).at (front_part file).bytes all.0, length-front file, front-at file);
+      room = omega (arith, holds_within bytes (front_part false file).at (front_part false file).bytes all.0, length-front file, front-at file);
       table_room = back_table_room file bytes size;
-      segments = segments_held bytes [] [] (start_of file) file.segments refl tt (held_front bytes segments (sections ++ table_parts file) all.1);
-      sections = sections_held bytes (segments_end file) file.sections (held_front bytes sections (table_parts file) later);
+      segments = segments_held bytes [] [] (start_of file) file.segments refl tt (held_front bytes segments (sections ++ table_parts false file) all.1);
+      sections = sections_held bytes (segments_end file) file.sections (held_front bytes sections (table_parts false file) later);
       segment_heads_are = back_segments file bytes sizes table;
-      section_heads_are = back_sections file bytes sizes (held_back bytes sections (table_parts file) later);
+      section_heads_are = back_sections file bytes sizes (held_back bytes sections (table_parts false file) later);
     }
 
 -- the values read back
@@ -116,14 +117,14 @@ back_segments_of file bytes b =
     ap (map (segment_of bytes)) b.segment_heads_are
     ∙ segments_back bytes 52 0 file.segments (spots_of file) (length-spots [] [] (start_of file) file.segments) b.segments
 
-back_sections_of : (file : File) (bytes : List ℕ) → IsTidy file → IsBack file bytes → sections_of false bytes (head_of file) ≡ file.sections
+back_sections_of : (file : File) (bytes : List ℕ) → IsTidy false file → IsBack file bytes → sections_of false bytes (head_of file) ≡ file.sections
 unfolding sections_of
 back_sections_of file bytes tidy b =
     ap (map (section_of bytes)) b.section_heads_are
     ∙ sections_back bytes (sections_at file) 0 file.sections (offsets_of file) (length-offsets (segments_end file) file.sections)
     tidy.form.sized b.sections
 
-back_file : (file : File) (bytes : List ℕ) → IsTidy file → IsBack file bytes → file_with false bytes (head_of file) ≡ file
+back_file : (file : File) (bytes : List ℕ) → IsTidy false file → IsBack file bytes → file_with false bytes (head_of file) ≡ file
 unfolding file_with head_of
 back_file file bytes tidy b = λ i. record {
   kind = file.kind;
@@ -135,7 +136,7 @@ back_file file bytes tidy b = λ i. record {
 }
 
 -- the rules
-head_keeps : (file : File) → IsTidy file → HeadKeeps (head_of file)
+head_keeps : (file : File) → IsTidy false file → HeadKeeps (head_of file)
 unfolding head_of
 head_keeps file tidy = record {
   kind = tidy.form.kind;
@@ -152,7 +153,7 @@ segments_within : (file : File) (bytes : List ℕ) → IsBack file bytes → are
 unfolding are_within head_of
 segments_within file bytes b = segments_room (length file.segments == 0) (length file.segments) (length bytes) refl b.room
 
-segments_pass : (file : File) (bytes : List ℕ) → IsTidy file → IsBack file bytes → segments_refusal false bytes (head_of file) ≡ None
+segments_pass : (file : File) (bytes : List ℕ) → IsTidy false file → IsBack file bytes → segments_refusal false bytes (head_of file) ≡ None
 unfolding segments_refusal
 segments_pass file bytes tidy b =
     both_none (must (are_within bytes (head_of file).segments_at 32 (head_of file).segment_count) Short 28) _
@@ -171,7 +172,7 @@ unfolding are_within head_of
 sections_within file bytes b =
     sections_room (length file.sections == 0) (length file.sections) (sections_at file) (length bytes) refl b.table_room
 
-sections_pass : (file : File) (bytes : List ℕ) → IsTidy file → IsBack file bytes → sections_refusal false bytes (head_of file) ≡ None
+sections_pass : (file : File) (bytes : List ℕ) → IsTidy false file → IsBack file bytes → sections_refusal false bytes (head_of file) ≡ None
 unfolding sections_refusal segments_total head_of
 sections_pass file bytes tidy b =
     let rule = section_refusal bytes (length file.sections) in
@@ -184,14 +185,14 @@ sections_pass file bytes tidy b =
     ∙ sections_keep bytes (length file.sections) (sections_at file) 0 (sum_by segment_length file.segments) file.sections (offsets_of file)
     tidy.form.sized b.sections tidy.form.held tidy.form.fields)
 
-names_pass : (file : File) (bytes : List ℕ) → IsTidy file → IsBack file bytes → names_refusal false bytes (head_of file) ≡ None
+names_pass : (file : File) (bytes : List ℕ) → IsTidy false file → IsBack file bytes → names_refusal false bytes (head_of file) ≡ None
 unfolding names_refusal head_of
 names_pass file bytes tidy b =
     ap (λ ss. along_both (named_refusal false file.names ss) (section_heads_of false bytes (head_of file)) ss) (back_sections_of file bytes tidy b)
     ∙ ap (λ hs. along_both (named_refusal false file.names file.sections) hs file.sections) b.section_heads_are
     ∙ names_keep file.names file.sections (sections_at file) 0 file.sections (offsets_of file) tidy.form.entries
 
-parts_pass : (file : File) (bytes : List ℕ) → IsTidy file → IsBack file bytes → parts_refusal false bytes (head_of file) ≡ None
+parts_pass : (file : File) (bytes : List ℕ) → IsTidy false file → IsBack file bytes → parts_refusal false bytes (head_of file) ≡ None
 unfolding parts_refusal tables_refusal
 parts_pass file bytes tidy b =
     both_none (segments_refusal false bytes (head_of file)) _ (segments_pass file bytes tidy b)
@@ -199,7 +200,7 @@ parts_pass file bytes tidy b =
     (sections_pass file bytes tidy b) (names_pass file bytes tidy b))
 
 -- the written form of a tidy file breaks no rule, and stands for the file
-pub written_passes : (file : File) (bytes : List ℕ) → bytes ≡ written file → IsTidy file → FileSizes file → refusal_of bytes ≡ None
+pub written_passes : (file : File) (bytes : List ℕ) → bytes ≡ written false file → IsTidy false file → FileSizes file → refusal_of bytes ≡ None
 unfolding refusal_of
 written_passes file bytes is tidy sizes =
     let b = file_back file bytes is tidy sizes in
@@ -209,7 +210,7 @@ written_passes file bytes is tidy sizes =
     (header_passes bytes (head_of file) b.reads b.long b.short (head_keeps file tidy))
     (ap (λ x. parts_refusal x bytes (file_head x bytes)) big ∙ ap (parts_refusal false bytes) head ∙ parts_pass file bytes tidy b)
 
-pub written_reads : (file : File) (bytes : List ℕ) → bytes ≡ written file → IsTidy file → FileSizes file → file_of bytes ≡ file
+pub written_reads : (file : File) (bytes : List ℕ) → bytes ≡ written false file → IsTidy false file → FileSizes file → file_of bytes ≡ file
 unfolding file_of
 written_reads file bytes is tidy sizes =
     let b = file_back file bytes is tidy sizes in

@@ -2,6 +2,7 @@ use Rattle.std.specs.Prelude.{ℕ, zero, suc, ◌+◌, ◌*◌, ◌/◌, ◌≤�
 use Rattle.std.specs.List.{range_with_len}
 use Rattle.c6x_spec.specs.Numbers.{half_at, word_at}
 use Rattle.c6x_elf_entries.specs.Names.{name_of}
+use Rattle.c6x_elf_entries.specs.declared.abi.TheConstants.{SHN_LORESERVE}
 use Rattle.c6x_elf_headers.specs.Rules.{Refusal, ◌<|>◌, first_along, must}
 use Rattle.c6x_elf_headers.specs.declared.elf_rule.ElfRule.TheVariants.{Index, NoNul}
 use Rattle.c6x_elf_headers.specs.declared.section_head.SectionHead.{SectionHead}
@@ -20,9 +21,9 @@ unfoldable pub name_refusal : List ℕ → ℕ → ℕ → Option Refusal
 name_refusal table name place =
     must (nat_lt name (length table)) Index place <|> must (is_some (name_of table name)) NoNul place
 
--- The section number of a symbol: from 0xFF00 on it stands for no section.
+-- The section number of a symbol: from SHN_LORESERVE on it stands for no section.
 unfoldable pub is_section_number : ℕ → ℕ → Bool
-is_section_number count number = nat_le 0xFF00 number || nat_lt number count
+is_section_number count number = nat_le SHN_LORESERVE number || nat_lt number count
 
 -- Symbol number k of a table: its name in the linked section, then its section number.
 unfoldable pub symbol_refusal : Bool → List Section → SectionHead → List ℕ → ℕ → Option Refusal

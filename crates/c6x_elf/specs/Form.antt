@@ -1,5 +1,6 @@
-use Rattle.std.specs.Prelude.{◌≡◌, ℕ, ◌+◌, ◌≤◌, false, IsTrue, None, All, length, map, sum_by}
+use Rattle.std.specs.Prelude.{◌≡◌, ℕ, ◌+◌, ◌≤◌, Bool, IsTrue, None, All, length, map, sum_by}
 use Rattle.c6x_base.specs.declared.limits.TheConstants.{MOST_FILE_BYTES, MOST_HELD_BYTES, MOST_SECTIONS, MOST_SEGMENTS}
+use Rattle.c6x_elf_entries.specs.declared.abi.TheConstants.{PT_LOAD}
 use Rattle.c6x_elf_headers.specs.Header.{is_file_type, is_none_or_below}
 use Rattle.c6x_elf_headers.specs.Rules.{along_both, first_along}
 use Rattle.c6x_elf_headers.specs.declared.section_head.SectionHead.{SectionHead}
@@ -25,8 +26,9 @@ abbrev pub section_length : Section → ℕ
 section_length section = length section.bytes
 
 -- A file has read form: its counts and its bytes together are within the limits, each section has its size, and
--- no rule on the file type, on tables and their links, on names or on entries is broken by its own values.
-pub record HasReadForm (file : File) : Type 0 where
+-- no rule on the file type, on tables and their links, on names or on entries is broken by its own values. The byte
+-- order is that of its entries.
+pub record HasReadForm (big : Bool) (file : File) : Type 0 where
   pub segments : length file.segments ≤ MOST_SEGMENTS
   pub sections : length file.sections ≤ MOST_SECTIONS
   pub held : sum_by segment_length file.segments + sum_by section_length file.sections ≤ MOST_HELD_BYTES
@@ -35,15 +37,15 @@ pub record HasReadForm (file : File) : Type 0 where
   pub names : IsTrue (is_none_or_below file.names (length file.sections))
   pub fields : first_along (fields_refusal (length file.sections)) (map own_head file.sections) ≡ None
   pub entries :
-      along_both (named_refusal false file.names file.sections) (map own_head file.sections) file.sections ≡ None
+      along_both (named_refusal big file.names file.sections) (map own_head file.sections) file.sections ≡ None
 
 -- A loaded segment has no more bytes than memory.
 pub record IsHeld (segment : Segment) : Type 0 where
-  pub held : segment.kind ≡ 1 → length segment.bytes ≤ segment.memsz
+  pub held : segment.kind ≡ PT_LOAD → length segment.bytes ≤ segment.memsz
 
 -- A file is tidy: it has read form, its loaded segments have memory for their bytes, and its written form is
 -- no longer than a file may be.
-pub record IsTidy (file : File) : Type 0 where
-  pub form : HasReadForm file
+pub record IsTidy (big : Bool) (file : File) : Type 0 where
+  pub form : HasReadForm big file
   pub loaded : All IsHeld file.segments
   pub small : written_size file ≤ MOST_FILE_BYTES

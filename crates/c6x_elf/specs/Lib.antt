@@ -1,5 +1,19 @@
-pub mod Parts
+pub mod Alone
 pub mod Entries
 pub mod Form
+pub mod Lists
+pub mod Parts
 pub mod Reading
+pub mod Tables
+pub mod Types
 pub mod Writing
+pub use Rattle.c6x_elf_entries.specs.declared.abi.TheConstants as Abi
+pub use Rattle.c6x_elf_entries.specs.Attributes
+pub use Rattle.c6x_elf_entries.specs.Entries as TableEntries
+pub use Rattle.c6x_elf_entries.specs.EntryRows
+pub use Rattle.c6x_elf_entries.specs.Held
+pub use Rattle.c6x_elf_entries.specs.Names
+pub use Rattle.c6x_elf_entries.specs.Rows
+pub use Rattle.c6x_elf_headers.specs.Header
+pub use Rattle.c6x_elf_headers.specs.Rules
+pub use Rattle.c6x_elf_layout.specs.Laid

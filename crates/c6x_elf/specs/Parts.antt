@@ -1,5 +1,6 @@
 use Rattle.std.specs.Prelude.{ℕ, ◌+◌, ◌*◌, ◌%◌, ◌==◌, ◌&&◌, ◌||◌, not, Bool, List, Option, length, nat_le, nat_lt, take, drop, if◌then◌else◌}
 use Rattle.c6x_base.specs.declared.limits.TheConstants.{MOST_HELD_BYTES}
+use Rattle.c6x_elf_entries.specs.declared.abi.TheConstants.{SHT_DYNSYM, SHT_NOBITS, SHT_NULL, SHT_RELA, SHT_SYMTAB}
 use Rattle.c6x_elf_headers.specs.Rules.{Refusal, ◌<|>◌, must}
 use Rattle.c6x_elf_headers.specs.declared.elf_rule.ElfRule.TheVariants.{Short, EntrySize, Index, Large}
 use Rattle.c6x_elf_headers.specs.declared.section_head.SectionHead.{SectionHead}
@@ -42,15 +43,15 @@ segment_refusal bytes before head = part_refusal bytes before head.offset head.f
 
 -- A section has bytes in the file unless its type is NULL or NOBITS (gABI chapter 4, "Section Header").
 unfoldable pub has_bytes : ℕ → Bool
-has_bytes kind = not (kind == 0) && not (kind == 8)
+has_bytes kind = not (kind == SHT_NULL) && not (kind == SHT_NOBITS)
 
 -- A symbol table: SYMTAB or DYNSYM.
 unfoldable pub is_symbol_table : ℕ → Bool
-is_symbol_table kind = kind == 2 || kind == 11
+is_symbol_table kind = kind == SHT_SYMTAB || kind == SHT_DYNSYM
 
 -- A relocation table with addends: RELA.
 unfoldable pub is_relocation_table : ℕ → Bool
-is_relocation_table kind = kind == 4
+is_relocation_table kind = kind == SHT_RELA
 
 -- How many bytes of the file are a section's.
 unfoldable pub section_size : SectionHead → ℕ

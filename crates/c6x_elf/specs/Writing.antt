@@ -3,6 +3,7 @@ use Rattle.std.specs.Int.{is_power_of_two}
 use Rattle.std.specs.Str.{bytes_eq}
 use Rattle.c6x_spec.specs.Places.{least_place}
 use Rattle.c6x_spec.specs.Rounded.{rounded}
+use Rattle.c6x_elf_entries.specs.declared.abi.TheConstants.{PT_LOAD}
 use Rattle.c6x_elf_headers.specs.declared.file_head.FileHead.{FileHead}
 use Rattle.c6x_elf_headers.specs.declared.section_head.SectionHead.{SectionHead}
 use Rattle.c6x_elf_headers.specs.declared.segment_head.SegmentHead.{SegmentHead}
@@ -22,7 +23,7 @@ step_of align = if is_power_of_two align then max align 4 else 4
 -- A segment has bytes, and they stand at their addresses among the bytes of another one that is loaded.
 unfoldable pub is_inside : Segment → Segment → Bool
 is_inside segment other =
-    other.kind == 1 && nat_lt 0 (length segment.bytes) && nat_le other.vaddr segment.vaddr
+    other.kind == PT_LOAD && nat_lt 0 (length segment.bytes) && nat_le other.vaddr segment.vaddr
     && nat_le (segment.vaddr + length segment.bytes) (other.vaddr + length other.bytes)
     && bytes_eq (take (length segment.bytes) (drop (segment.vaddr - other.vaddr) other.bytes)) segment.bytes
 
@@ -174,26 +175,26 @@ head_of file = record {
 }
 
 -- The file header with the program headers.
-unfoldable pub front_part : File → Part
-front_part file = record {
+unfoldable pub front_part : Bool → File → Part
+front_part big file = record {
   at = 0;
-  bytes = file_row false (head_of file) ++ segment_rows false (segment_heads_at 52 0 file.segments (spots_of file));
+  bytes = file_row big (head_of file) ++ segment_rows big (segment_heads_at 52 0 file.segments (spots_of file));
 }
 
 -- The section headers.
-unfoldable pub table_parts : File → List Part
-table_parts file =
+unfoldable pub table_parts : Bool → File → List Part
+table_parts big file =
     if length file.sections == 0 then []
     else record {
       at = sections_at file;
-      bytes = section_rows false (section_heads_at (sections_at file) 0 file.sections (offsets_of file));
+      bytes = section_rows big (section_heads_at (sections_at file) 0 file.sections (offsets_of file));
     } ∷ []
 
--- The written form of a file: its parts in order, with zeros in the gaps.
-unfoldable pub written : File → List ℕ
-written file =
-    laid 0 (front_part file
-    ∷ (segment_parts file.segments (spots_of file) ++ (section_parts file.sections (offsets_of file) ++ table_parts file)))
+-- The written form of a file in a byte order: its parts in order, with zeros in the gaps.
+unfoldable pub written : Bool → File → List ℕ
+written big file =
+    laid 0 (front_part big file
+    ∷ (segment_parts file.segments (spots_of file) ++ (section_parts file.sections (offsets_of file) ++ table_parts big file)))
 
 -- Each segment's spot and bytes lie in the first 4,194,304 bytes, the most that a file has.
 abbrev pub AreWithin : List Segment → List Spot → Type 0

@@ -2,11 +2,16 @@
 //!
 //! [`read_file`] gives the one [`File`] that bytes stand for (`specs/Reading.antt`), or the first broken rule
 //! in reading order with its place. [`write_file`] lays a tidy file out (`specs/Writing.antt`), and reading
-//! what it wrote gives the file again; [`is_tidy`] is the test of its condition (`specs/Form.antt`). The
-//! entries of tables, names and their hash are those of `c6x_elf_entries`.
+//! what it wrote gives the file again; [`is_tidy`] is the test of its condition (`specs/Form.antt`). What
+//! read form says of each section, symbol and relocation is `specs/Tables.antt`. The numbers of the gABI
+//! under their names ([`abi`]), the entries of tables, string tables and the hash of a name are those of
+//! `c6x_elf_entries`. Definitions of crates above find all of these below `c6x_elf.specs`: numbers in `Abi`,
+//! types in `Types`.
 #![tactic(auto)]
 
 mod file;
+mod laws;
+mod lists;
 mod names;
 mod parts;
 mod placing;
@@ -16,9 +21,15 @@ mod segment;
 mod spot;
 mod writing;
 
-pub use c6x_elf_entries::{Dyn, Rela, Symbol, dynamic, hash, name_at, rela, symbol};
+pub use c6x_elf_entries::{
+    Dyn, NameTable, Rela, SectionClass, Symbol, SymbolBinding, Visibility, abi, dynamic, hash,
+    info_of, name_at, put_dynamic, put_rela, put_symbol, read_dynamic, read_rela, read_symbol,
+    rela, symbol,
+};
 pub use c6x_elf_headers::{ElfError, ElfRule};
 pub use file::File;
+pub use laws::{read_form_is_well_formed, segments_alone_are_tidy};
+pub use lists::{is_under, section_bytes, section_name, symbol_table};
 pub use reading::read_file;
 pub use section::Section;
 pub use segment::Segment;

@@ -3,8 +3,10 @@ ghost use Rattle.std.specs.List.{range_with_len};
 ghost use Rattle.c6x_elf_headers.specs.Rules.{along_both, first_along, Passes};
 ghost use Rattle.c6x_elf.specs.Entries.{ArePlaced, entries_refusal, IsPlaced, is_section_number, name_end, name_ends, name_refusal, named_refusal, own_name_refusal, rela_refusal, relas_refusal, symbol_refusal, symbols_in, symbols_refusal, text_of};
 
+use crate::lists::section_bytes;
 use crate::parts::{is_relocation_table, is_symbol_table};
 use crate::section::Section;
+use c6x_elf_entries::abi::SHN_LORESERVE;
 use c6x_elf_entries::{read_half, read_word};
 use c6x_elf_headers::{ElfError, ElfRule, SectionHead, check};
 use std::alloc::{AllocError, Global};
@@ -184,7 +186,7 @@ fn check_name(
     ensures { Passes result (name_refusal (text_of sections.now table) name place) }
 {
     check(
-        (name as usize) < text(sections, table).len(),
+        (name as usize) < section_bytes(sections, table).len(),
         ElfRule::Index,
         place,
     )?;
@@ -203,7 +205,7 @@ fn symbols_in(sections: &[Section], link: u32) -> usize
     if link == 0 {
         return 1;
     }
-    text(sections, link).len() / 16
+    section_bytes(sections, link).len() / 16
 }
 
 /// Whether a symbol's section number stands for no section, or for one of `count`.
@@ -211,18 +213,7 @@ fn symbols_in(sections: &[Section], link: u32) -> usize
 fn is_section_number(count: usize, number: u16) -> bool
     ensures { result ≡ is_section_number count number }
 {
-    0xFF00 <= number || usize::from(number) < count
-}
-
-/// The bytes of the section with this number; none where there is no such section.
-#[tactic(auto, unfolding(crate::specs::Entries::text_of), using(crate::proofs::EntryWalks::text_here, crate::proofs::EntryWalks::text_past))]
-fn text(sections: &[Section], number: u32) -> &[u8]
-    ensures { result.now ≡ text_of sections.now number }
-{
-    if sections.len() <= number as usize {
-        return &[];
-    }
-    sections[number as usize].bytes.as_bytes()
+    SHN_LORESERVE <= number || usize::from(number) < count
 }
 
 /// The end of the names in the section with this number; 0 where there is no such section.

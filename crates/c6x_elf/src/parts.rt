@@ -6,6 +6,7 @@ use crate::section::Section;
 use crate::segment::Segment;
 use c6x_base::Bytes;
 use c6x_base::limits::MOST_HELD_BYTES;
+use c6x_elf_entries::abi::{SHT_DYNSYM, SHT_NOBITS, SHT_NULL, SHT_RELA, SHT_SYMTAB};
 use c6x_elf_headers::{ElfError, ElfRule, SectionHead, SegmentHead, check};
 use std::alloc::Global;
 
@@ -78,7 +79,7 @@ pub fn section_size(head: &SectionHead) -> u32
 pub fn has_bytes(kind: u32) -> bool
     ensures { result ≡ has_bytes kind }
 {
-    kind != 0 && kind != 8
+    kind != SHT_NULL && kind != SHT_NOBITS
 }
 
 /// Whether this is the type of a symbol table.
@@ -86,7 +87,7 @@ pub fn has_bytes(kind: u32) -> bool
 pub fn is_symbol_table(kind: u32) -> bool
     ensures { result ≡ is_symbol_table kind }
 {
-    kind == 2 || kind == 11
+    kind == SHT_SYMTAB || kind == SHT_DYNSYM
 }
 
 /// Whether this is the type of a relocation table with addends.
@@ -94,7 +95,7 @@ pub fn is_symbol_table(kind: u32) -> bool
 pub fn is_relocation_table(kind: u32) -> bool
     ensures { result ≡ is_relocation_table kind }
 {
-    kind == 4
+    kind == SHT_RELA
 }
 
 /// Whether `count` headers of this size from `at` on lie in the file.

@@ -7,6 +7,7 @@ use crate::segment::Segment;
 use crate::spot::Spot;
 use c6x_base::limits::MOST_FILE_BYTES;
 use c6x_base::{least_multiple, least_place};
+use c6x_elf_entries::abi::PT_LOAD;
 use std::alloc::{AllocError, Global};
 
 /// The spots of segments, of which the first may begin at `start`, and the place behind them; None
@@ -103,7 +104,7 @@ fn is_inside(segment: &Segment, other: &Segment) -> bool
 {
     let bytes = segment.bytes.as_bytes();
     let others = other.bytes.as_bytes();
-    if other.kind != 1 || bytes.is_empty() || segment.vaddr < other.vaddr {
+    if other.kind != PT_LOAD || bytes.is_empty() || segment.vaddr < other.vaddr {
         return false;
     }
     let skip = (segment.vaddr - other.vaddr) as usize;

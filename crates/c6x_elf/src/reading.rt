@@ -1,4 +1,4 @@
-ghost use Rattle.std.specs.Prelude.{◌≡◌, ◌+◌, ◌*◌, ◌<◌, ◌≤◌, length, map, sum_by, IfOk, OnOk};
+ghost use Rattle.std.specs.Prelude.{◌≡◌, false, ◌+◌, ◌*◌, ◌<◌, ◌≤◌, length, map, sum_by, IfOk, OnOk};
 ghost use Rattle.c6x_elf_headers.specs.Heads.{AreSectionHeadsNear, AreSegmentHeadsNear, file_head, is_big};
 ghost use Rattle.c6x_elf_headers.specs.Rules.{along_parts, Passes};
 ghost use Rattle.c6x_elf.specs.Form.{HasReadForm};
@@ -157,7 +157,7 @@ fn read_parts(alloc: Global, big: bool, bytes: &[u8], head: &FileHead) -> Result
 pub fn read_file(alloc: Global, bytes: &[u8]) -> Result<File, ElfError>
     ensures passes { Passes result (refusal_of bytes.now) }
     ensures value { IfOk result (λ file. file ≡ file_of bytes.now) }
-    ensures form { IfOk result HasReadForm }
+    ensures form { IfOk result (HasReadForm false) }
 {
     let head = read_header(bytes)?;
     let file = read_parts(alloc, is_big(bytes), bytes, &head)?;

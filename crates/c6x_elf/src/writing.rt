@@ -15,6 +15,7 @@ use crate::segment::Segment;
 use crate::spot::Spot;
 use c6x_base::limits::MOST_FILE_BYTES;
 use c6x_base::{Bytes, least_multiple};
+use c6x_elf_entries::abi::PT_LOAD;
 use c6x_elf_headers::{ElfError, FileHead, SectionHead, SegmentHead};
 use c6x_elf_layout::{pad, put_file_head, put_part, put_section_head, put_segment_head};
 use std::alloc::{AllocError, Global};
@@ -210,9 +211,9 @@ fn table_at(count: usize, end: u32) -> u64
 /// Whether a file that has read form is tidy: its loaded segments have memory for their bytes, and its
 /// written form is no longer than a file may be.
 pub fn is_tidy(alloc: Global, file: &File) -> Result<bool, AllocError>
-    requires { HasReadForm file.now }
-    ensures tidy { IfOk result (λ tidy. IsTrue tidy → IsTidy file.now) }
-    ensures exact { IfOk result (λ tidy. IsTidy file.now → IsTrue tidy) }
+    requires { HasReadForm false file.now }
+    ensures tidy { IfOk result (λ tidy. IsTrue tidy → IsTidy false file.now) }
+    ensures exact { IfOk result (λ tidy. IsTidy false file.now → IsTrue tidy) }
 {
     if !file.segments.as_slice().iter().all(is_held) {
         return Ok(false);
@@ -224,18 +225,18 @@ pub fn is_tidy(alloc: Global, file: &File) -> Result<bool, AllocError>
 fn is_held(segment: &Segment) -> bool
     ensures { IsTrue result ↔ IsHeld segment.now }
 {
-    segment.kind != 1 || segment.bytes.as_bytes().len() <= segment.memsz as usize
+    segment.kind != PT_LOAD || segment.bytes.as_bytes().len() <= segment.memsz as usize
 }
 
 /// Puts the file header and the program headers into an empty vector.
 #[tactic(auto, unfolding(crate::specs::Writing::front_part))]
 fn put_front(out: &mut Vec<u8>, file: &File, layout: &Layout) -> Result<(), AllocError>
     requires empty { out.old.items ≡ [] }
-    requires tidy { IsTidy file.now }
+    requires tidy { IsTidy false file.now }
     requires spots { layout.now.spots.items ≡ spots_of file.now }
     requires table { layout.now.sections_at ≡ sections_at file.now }
     requires within { AreWithin file.now.segments layout.now.spots.items }
-    ensures row { OnOk result (out.new.items ≡ (front_part file.now).bytes) }
+    ensures row { OnOk result (out.new.items ≡ (front_part false file.now).bytes) }
     ensures end { OnOk result (vec_len out.new ≡ start_of file.now) }
     ensures head_fits { OnOk result (FileFits (head_of file.now)) }
     ensures segments_fit { OnOk result (SegmentsFit (segment_heads_at 52 0 file.now.segments (spots_of file.now))) }
@@ -270,11 +271,11 @@ fn file_head(file: &File, at: u32) -> FileHead
 /// Puts the section headers, if there are any.
 #[tactic(auto, unfolding(crate::specs::Writing::table_parts, crate::specs::Writing::written_size))]
 fn put_table(out: &mut Vec<u8>, file: &File, layout: &Layout) -> Result<(), AllocError>
-    requires order { InOrder (vec_len out.old) (table_parts file.now) }
+    requires order { InOrder (vec_len out.old) (table_parts false file.now) }
     requires small { written_size file.now ≤ 4194304 }
     requires offsets { layout.now.offsets.items ≡ offsets_of file.now }
     requires table { layout.now.sections_at ≡ sections_at file.now }
-    ensures laid { OnOk result (out.new.items ≡ out.old.items ++ laid (vec_len out.old) (table_parts file.now)) }
+    ensures laid { OnOk result (out.new.items ≡ out.old.items ++ laid (vec_len out.old) (table_parts false file.now)) }
     ensures fit { OnOk result (SectionsFit (section_heads_at (sections_at file.now) 0 file.now.sections (offsets_of file.now))) }
 {
     let sections = file.sections.as_slice();
@@ -288,12 +289,12 @@ fn put_table(out: &mut Vec<u8>, file: &File, layout: &Layout) -> Result<(), Allo
 /// Puts all parts of a file into an empty vector.
 fn put_file(out: &mut Vec<u8>, file: &File, layout: &Layout) -> Result<(), AllocError>
     requires empty { out.old.items ≡ [] }
-    requires tidy { IsTidy file.now }
+    requires tidy { IsTidy false file.now }
     requires spots { layout.now.spots.items ≡ spots_of file.now }
     requires offsets { layout.now.offsets.items ≡ offsets_of file.now }
     requires table { layout.now.sections_at ≡ sections_at file.now }
     requires within { AreWithin file.now.segments layout.now.spots.items }
-    ensures written { OnOk result (out.new.items ≡ written file.now) }
+    ensures written { OnOk result (out.new.items ≡ written false file.now) }
     ensures fit { OnOk result (FileSizes file.now) }
 {
     put_front(out, file, layout)?;
@@ -305,8 +306,8 @@ fn put_file(out: &mut Vec<u8>, file: &File, layout: &Layout) -> Result<(), Alloc
 
 /// The written form of a tidy file, which stands for the file: reading it gives the file again.
 pub fn write_file(alloc: Global, file: &File) -> Result<Bytes, ElfError>
-    requires { IsTidy file.now }
-    ensures written { IfOk result (λ bytes. bytes ≡ written file.now) }
+    requires { IsTidy false file.now }
+    ensures written { IfOk result (λ bytes. bytes ≡ written false file.now) }
     ensures kept { IfOk result (λ bytes. refusal_of bytes ≡ None) }
     ensures read_back { IfOk result (λ bytes. file_of bytes ≡ file.now) }
     ensures memory { IfErr result (λ e. e ≡ ElfError.NoMemory) }

@@ -1,0 +1,4 @@
+pub mod EntryRows
+pub mod Holdings
+pub mod NameTables
+pub mod NumberRows

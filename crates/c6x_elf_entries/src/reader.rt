@@ -1,5 +1,6 @@
 ghost use Rattle.std.specs.Prelude.{◌≡◌, false};
-ghost use Rattle.c6x_elf_entries.specs.Entries.{dynamic_of, rela_of, symbol_of};
+ghost use Rattle.std.specs.List.{slice_get};
+ghost use Rattle.c6x_elf_entries.specs.Entries.{dynamic_entries, dynamic_of, rela_entries, rela_of, symbol_entries, symbol_of};
 
 use crate::dyn_entry::Dyn;
 use crate::number::{read_half, read_word};
@@ -29,11 +30,13 @@ pub fn dynamic(table: &[u8], number: u32) -> Option<Dyn>
     read_dynamic(false, table, number)
 }
 
-/// `symbol` in either byte order.
+/// `symbol` in either byte order: the entry of the table's list with this number.
+#[tactic(auto, unfolding(crate::specs::Entries::symbol_at), using(crate::proofs::EntryRows::symbol_listed, std::proofs::lemmas::Bool::Decides::nat_tests))]
 pub fn read_symbol(big: bool, table: &[u8], number: u32) -> Option<Symbol>
-    ensures { result ≡ symbol_of big table.now number }
+    ensures value { result ≡ symbol_of big table.now number }
+    ensures listed { result ≡ slice_get (symbol_entries big table.now) number }
 {
-    let at = number as usize * 16;
+    let at = 16 * number as usize;
     if table.len() < at + 16 {
         return None;
     }
@@ -47,11 +50,13 @@ pub fn read_symbol(big: bool, table: &[u8], number: u32) -> Option<Symbol>
     })
 }
 
-/// `rela` in either byte order.
+/// `rela` in either byte order: the entry of the table's list with this number.
+#[tactic(auto, unfolding(crate::specs::Entries::rela_at), using(crate::proofs::EntryRows::rela_listed, std::proofs::lemmas::Bool::Decides::nat_tests))]
 pub fn read_rela(big: bool, table: &[u8], number: u32) -> Option<Rela>
-    ensures { result ≡ rela_of big table.now number }
+    ensures value { result ≡ rela_of big table.now number }
+    ensures listed { result ≡ slice_get (rela_entries big table.now) number }
 {
-    let at = number as usize * 12;
+    let at = 12 * number as usize;
     if table.len() < at + 12 {
         return None;
     }
@@ -62,11 +67,13 @@ pub fn read_rela(big: bool, table: &[u8], number: u32) -> Option<Rela>
     })
 }
 
-/// `dynamic` in either byte order.
+/// `dynamic` in either byte order: the entry of the table's list with this number.
+#[tactic(auto, unfolding(crate::specs::Entries::dynamic_at), using(crate::proofs::EntryRows::dynamic_listed, std::proofs::lemmas::Bool::Decides::nat_tests))]
 pub fn read_dynamic(big: bool, table: &[u8], number: u32) -> Option<Dyn>
-    ensures { result ≡ dynamic_of big table.now number }
+    ensures value { result ≡ dynamic_of big table.now number }
+    ensures listed { result ≡ slice_get (dynamic_entries big table.now) number }
 {
-    let at = number as usize * 8;
+    let at = 8 * number as usize;
     if table.len() < at + 8 {
         return None;
     }

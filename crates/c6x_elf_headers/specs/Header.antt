@@ -1,6 +1,7 @@
 use Rattle.std.specs.Prelude.{ℕ, ◌≤◌, ◌==◌, IsTrue, ◌&&◌, ◌||◌, Bool, List, Option, length, nat_le, nat_lt, slice_index}
 use Rattle.c6x_spec.specs.Numbers.{half_at, word_at}
 use Rattle.c6x_base.specs.declared.limits.TheConstants.{MOST_FILE_BYTES, MOST_SECTIONS, MOST_SEGMENTS}
+use Rattle.c6x_elf_entries.specs.declared.abi.TheConstants.{ELFCLASS32, ELFDATA2LSB, EM_TI_C6000, ET_DYN, ET_EXEC, ET_REL, EV_CURRENT}
 use Rattle.c6x_elf_headers.specs.Heads.{is_big}
 use Rattle.c6x_elf_headers.specs.declared.file_head.FileHead.{FileHead}
 use Rattle.c6x_elf_headers.specs.Rules.{Refusal, ◌<|>◌, must, whole}
@@ -13,7 +14,7 @@ is_magic bytes =
 
 -- A relocatable file, an executable or a shared object.
 unfoldable pub is_file_type : ℕ → Bool
-is_file_type kind = nat_le 1 kind && nat_le kind 3
+is_file_type kind = kind == ET_REL || kind == ET_EXEC || kind == ET_DYN
 
 -- A number is 0 or names one of count things.
 unfoldable pub is_none_or_below : ℕ → ℕ → Bool
@@ -23,23 +24,23 @@ is_none_or_below number count = number == 0 || nat_lt number count
 unfoldable pub is_none_or_sized : ℕ → ℕ → ℕ → Bool
 is_none_or_sized count size wanted = count == 0 || size == wanted
 
--- The length, and the identification in the first 16 bytes: class 1 has 32 bits, encoding 1 is
--- little-endian, the version is 1, and the other nine bytes may be any.
+-- The length, and the identification in the first 16 bytes: the class, the encoding, which is little-endian, the
+-- version, and nine bytes that may be any.
 unfoldable pub ident_refusal : List ℕ → Option Refusal
 ident_refusal bytes =
     must (nat_le (length bytes) MOST_FILE_BYTES) Large 0
     <|> whole bytes 0 4 <|> must (is_magic bytes) Magic 0
-    <|> whole bytes 4 1 <|> must (slice_index bytes 4 == 1) Class 4
-    <|> whole bytes 5 1 <|> must (slice_index bytes 5 == 1) Data 5
-    <|> whole bytes 6 1 <|> must (slice_index bytes 6 == 1) Version 6
+    <|> whole bytes 4 1 <|> must (slice_index bytes 4 == ELFCLASS32) Class 4
+    <|> whole bytes 5 1 <|> must (slice_index bytes 5 == ELFDATA2LSB) Data 5
+    <|> whole bytes 6 1 <|> must (slice_index bytes 6 == EV_CURRENT) Version 6
     <|> whole bytes 7 9
 
--- The type, the machine, which is 140, the version, and four words.
+-- The type, the machine, the version, and four words.
 unfoldable pub numbers_refusal : Bool → List ℕ → Option Refusal
 numbers_refusal big bytes =
     whole bytes 16 2 <|> must (is_file_type (half_at big bytes 16)) FileType 16
-    <|> whole bytes 18 2 <|> must (half_at big bytes 18 == 140) Machine 18
-    <|> whole bytes 20 4 <|> must (word_at big bytes 20 == 1) Version 20
+    <|> whole bytes 18 2 <|> must (half_at big bytes 18 == EM_TI_C6000) Machine 18
+    <|> whole bytes 20 4 <|> must (word_at big bytes 20 == EV_CURRENT) Version 20
     <|> whole bytes 24 4 <|> whole bytes 28 4 <|> whole bytes 32 4 <|> whole bytes 36 4
 
 -- The sizes and counts of headers, at most 64 program and 4,096 section headers, and the section of the

@@ -1,13 +1,14 @@
 use Rattle.std.specs.Prelude.{ℕ, ◌+◌, ◌*◌, ◌<◌, ◌≤◌, ◌==◌, Bool, List, length, map, slice_index, slice_index_or}
 use Rattle.std.specs.List.{range_with_len}
 use Rattle.c6x_spec.specs.Numbers.{half_at, word_at}
+use Rattle.c6x_elf_entries.specs.declared.abi.TheConstants.{ELFDATA2MSB}
 use Rattle.c6x_elf_headers.specs.declared.file_head.FileHead.{FileHead}
 use Rattle.c6x_elf_headers.specs.declared.section_head.SectionHead.{SectionHead}
 use Rattle.c6x_elf_headers.specs.declared.segment_head.SegmentHead.{SegmentHead}
 
 -- The encoding is big-endian (gABI chapter 4, "ELF Identification", `e_ident[EI_DATA]`).
 unfoldable pub is_big : List ℕ → Bool
-is_big bytes = slice_index bytes 5 == 2
+is_big bytes = slice_index bytes 5 == ELFDATA2MSB
 
 -- The fields of the file header (gABI chapter 4, "ELF Header").
 unfoldable pub file_head : Bool → List ℕ → FileHead

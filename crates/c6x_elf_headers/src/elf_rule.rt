@@ -10,9 +10,9 @@ pub enum ElfRule {
     Class,
     /// The byte order is not little-endian.
     Data,
-    /// A version is not 1.
+    /// A version is not the current one.
     Version,
-    /// The machine is not 140, the TI C6000.
+    /// The machine is not the TI C6000.
     Machine,
     /// The file is no relocatable file, executable or shared object.
     FileType,

@@ -9,6 +9,9 @@ use crate::elf_error::ElfError;
 use crate::elf_rule::ElfRule;
 use crate::file_head::FileHead;
 use c6x_base::limits::{MOST_FILE_BYTES, MOST_SECTIONS, MOST_SEGMENTS};
+use c6x_elf_entries::abi::{
+    ELFCLASS32, ELFDATA2LSB, ELFDATA2MSB, EM_TI_C6000, ET_DYN, ET_EXEC, ET_REL, EV_CURRENT,
+};
 use c6x_elf_entries::{read_half, read_word};
 
 /// The file header, or the first broken rule of the length and the header.
@@ -35,7 +38,7 @@ pub fn is_big(bytes: &[u8]) -> bool
     requires { 6 ≤ length bytes.now }
     ensures { result ≡ is_big bytes.now }
 {
-    bytes[5] == 2
+    bytes[5] == ELFDATA2MSB
 }
 
 /// The length and the identification.
@@ -50,11 +53,11 @@ fn check_ident(bytes: &[u8]) -> Result<(), ElfError>
     need(bytes, 0, 4)?;
     check(is_magic(bytes), ElfRule::Magic, 0)?;
     need(bytes, 4, 1)?;
-    check(bytes[4] == 1, ElfRule::Class, 4)?;
+    check(bytes[4] == ELFCLASS32, ElfRule::Class, 4)?;
     need(bytes, 5, 1)?;
-    check(bytes[5] == 1, ElfRule::Data, 5)?;
+    check(bytes[5] == ELFDATA2LSB, ElfRule::Data, 5)?;
     need(bytes, 6, 1)?;
-    check(bytes[6] == 1, ElfRule::Version, 6)?;
+    check(bytes[6] == EV_CURRENT as u8, ElfRule::Version, 6)?;
     need(bytes, 7, 9)
 }
 
@@ -72,9 +75,17 @@ fn check_numbers(big: bool, bytes: &[u8]) -> Result<(), ElfError>
         16,
     )?;
     need(bytes, 18, 2)?;
-    check(read_half(big, bytes, 18) == 140, ElfRule::Machine, 18)?;
+    check(
+        read_half(big, bytes, 18) == EM_TI_C6000,
+        ElfRule::Machine,
+        18,
+    )?;
     need(bytes, 20, 4)?;
-    check(read_word(big, bytes, 20) == 1, ElfRule::Version, 20)?;
+    check(
+        read_word(big, bytes, 20) == EV_CURRENT,
+        ElfRule::Version,
+        20,
+    )?;
     need(bytes, 24, 4)?;
     need(bytes, 28, 4)?;
     need(bytes, 32, 4)?;
@@ -164,7 +175,7 @@ fn is_magic(bytes: &[u8]) -> bool
 fn is_file_type(kind: u16) -> bool
     ensures { result ≡ is_file_type kind }
 {
-    1 <= kind && kind <= 3
+    kind == ET_REL || kind == ET_EXEC || kind == ET_DYN
 }
 
 /// Whether a number is 0 or names one of `count` things.

@@ -6,10 +6,10 @@ use Rattle.c6x_elf_headers.specs.declared.file_head.FileHead.{FileHead}
 use Rattle.c6x_elf_headers.specs.declared.section_head.SectionHead.{SectionHead}
 use Rattle.c6x_elf_headers.specs.declared.segment_head.SegmentHead.{SegmentHead}
 use Rattle.c6x_elf_layout.specs.HeadRows.{FileFits, SectionsFit, SectionsStand, SegmentsFit, SegmentsStand, file_counts, file_kinds, file_row, file_words, ident, section_rows, section_words, segment_rows, segment_words}
-use Rattle.c6x_elf_layout.specs.Laid.{Holds}
-use Rattle.c6x_elf_layout.specs.Rows.{AreWords, SpellsHalves, SpellsWords, half_row, word_row}
-use Rattle.c6x_elf_layout.proofs.Holdings.{holds_byte, holds_left, holds_right}
-use Rattle.c6x_elf_layout.proofs.NumberRows.{halves_held, length-half_row, length-word_row, words_held}
+use Rattle.c6x_elf_entries.specs.Held.{Holds}
+use Rattle.c6x_elf_entries.specs.Rows.{AreWords, SpellsHalves, SpellsWords, half_row, word_row}
+use Rattle.c6x_elf_entries.proofs.Holdings.{holds_byte, holds_left, holds_right}
+use Rattle.c6x_elf_entries.proofs.NumberRows.{halves_held, length-half_row, length-word_row, words_held}
 
 -- a file header put piece by piece
 pub file_row_put : (old a b c d : List ℕ) → (((old ++ a) ++ b) ++ c) ++ d ≡ old ++ (a ++ (b ++ (c ++ d)))

@@ -1,7 +1,8 @@
 use Rattle.std.proofs.Common.{◌≡◌, ℕ, ◌+◌, ◌-◌, ◌≤◌, List, [], ◌∷◌, ◌++◌, length, replicate, refl, ap, ◌∙◌, append_assoc, arith}
 use Rattle.std.proofs.lemmas.List.{length-replicate, replicate_more}
-use Rattle.c6x_elf_layout.specs.Laid.{AllHeld, Holds, InOrder, Part, laid}
-use Rattle.c6x_elf_layout.proofs.Holdings.{holds_left, holds_right}
+use Rattle.c6x_elf_entries.specs.Held.{Holds}
+use Rattle.c6x_elf_layout.specs.Laid.{AllHeld, InOrder, Part, laid}
+use Rattle.c6x_elf_entries.proofs.Holdings.{holds_left, holds_right}
 
 -- a part put behind the old bytes, whatever follows
 pub laid_more : (old : List ℕ) (from at : ℕ) (bytes : List ℕ) (rest : List Part) → ((old ++ replicate (at - from) 0) ++ bytes) ++ laid (at + length bytes) rest ≡ old ++ laid from (record { at = at; bytes = bytes } ∷ rest)

@@ -2,6 +2,7 @@ use Rattle.std.proofs.Common.{◌≡◌, ℕ, ◌+◌, ◌≤◌, ◌==◌, ◌|
 use Rattle.std.proofs.lemmas.Bool.Decides.{nat_tests}
 use Rattle.std.specs.Prelude.{slice_index}
 use Rattle.c6x_spec.specs.Numbers.{half_at, word_at}
+use Rattle.c6x_elf_entries.specs.declared.abi.TheConstants.{ELFCLASS32, ELFDATA2LSB, EM_TI_C6000, EV_CURRENT}
 use Rattle.c6x_elf_headers.specs.Header.{HeadKeeps, counts_refusal, header_refusal, ident_refusal, is_file_type, is_magic, is_none_or_below, is_none_or_sized, numbers_refusal, sizes_refusal}
 use Rattle.c6x_elf_headers.specs.Heads.{is_big}
 use Rattle.c6x_elf_headers.specs.Rules.{must, whole}
@@ -41,9 +42,9 @@ ident_passes bytes head r long few =
     let magic : is_magic bytes ≡ true = rw (b0, b1, b2, b3) refl in
     let m0 = must_is (nat_le (length bytes) 4194304) Large 0 (grind (arith, nat_tests)) in
     let m1 = must_is (is_magic bytes) Magic 0 magic in
-    let m2 = must_is (slice_index bytes 4 == 1) Class 4 (same_number _ _ b4) in
-    let m3 = must_is (slice_index bytes 5 == 1) Data 5 (same_number _ _ b5) in
-    let m4 = must_is (slice_index bytes 6 == 1) Version 6 (same_number _ _ b6) in
+    let m2 = must_is (slice_index bytes 4 == ELFCLASS32) Class 4 (same_number _ _ b4) in
+    let m3 = must_is (slice_index bytes 5 == ELFDATA2LSB) Data 5 (same_number _ _ b5) in
+    let m4 = must_is (slice_index bytes 6 == EV_CURRENT) Version 6 (same_number _ _ b6) in
     let w0 = whole_is bytes 0 4 (omega arith) in
     let w4 = whole_is bytes 4 1 (omega arith) in
     let w5 = whole_is bytes 5 1 (omega arith) in
@@ -55,8 +56,8 @@ numbers_pass : (bytes : List ℕ) (head : FileHead) → ReadsHead false bytes he
 unfolding numbers_refusal
 numbers_pass bytes head r long kind =
     let m0 = must_is (is_file_type (half_at false bytes 16)) FileType 16 (ap is_file_type r.kinds.0 ∙ kind) in
-    let m1 = must_is (half_at false bytes 18 == 140) Machine 18 (same_number _ _ r.kinds.1.0) in
-    let m2 = must_is (word_at false bytes 20 == 1) Version 20 (same_number _ _ r.words.0) in
+    let m1 = must_is (half_at false bytes 18 == EM_TI_C6000) Machine 18 (same_number _ _ r.kinds.1.0) in
+    let m2 = must_is (word_at false bytes 20 == EV_CURRENT) Version 20 (same_number _ _ r.words.0) in
     let w16 = whole_is bytes 16 2 (omega arith) in
     let w18 = whole_is bytes 18 2 (omega arith) in
     let w20 = whole_is bytes 20 4 (omega arith) in

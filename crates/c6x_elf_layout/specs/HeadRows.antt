@@ -1,8 +1,9 @@
 use Rattle.std.specs.Prelude.{◌≡◌, ℕ, ◌+◌, ◌*◌, ◌==◌, Bool, List, [], ◌∷◌, ◌++◌, if◌then◌else◌}
+use Rattle.c6x_elf_entries.specs.Rows.{AreHalves, AreWords, half_row, word_row}
+use Rattle.c6x_elf_entries.specs.declared.abi.TheConstants.{ELFCLASS32, ELFDATA2LSB, ELFDATA2MSB, EM_TI_C6000, EV_CURRENT}
 use Rattle.c6x_elf_headers.specs.declared.file_head.FileHead.{FileHead}
 use Rattle.c6x_elf_headers.specs.declared.section_head.SectionHead.{SectionHead}
 use Rattle.c6x_elf_headers.specs.declared.segment_head.SegmentHead.{SegmentHead}
-use Rattle.c6x_elf_layout.specs.Rows.{AreHalves, AreWords, half_row, word_row}
 
 -- The words of a program header (gABI chapter 5, "Program Header"). The physical address is the virtual one.
 abbrev pub segment_words : SegmentHead → List ℕ
@@ -23,10 +24,10 @@ unfoldable pub section_rows : Bool → List SectionHead → List ℕ
 section_rows big [] = []
 section_rows big (head ∷ heads) = word_row big (section_words head) ++ section_rows big heads
 
--- The identification (gABI chapter 4, "ELF Identification"): class 1, the encoding, version 1, and zeros.
+-- The identification (gABI chapter 4, "ELF Identification"): the class, the encoding, the version, and zeros.
 abbrev pub ident : Bool → List ℕ
 ident big =
-    0x7F ∷ 0x45 ∷ 0x4C ∷ 0x46 ∷ 1 ∷ (if big then 2 else 1) ∷ 1 ∷ 0 ∷ 0 ∷ 0 ∷ 0 ∷ 0 ∷ 0 ∷ 0 ∷ 0 ∷ 0 ∷ []
+    0x7F ∷ 0x45 ∷ 0x4C ∷ 0x46 ∷ ELFCLASS32 ∷ (if big then ELFDATA2MSB else ELFDATA2LSB) ∷ EV_CURRENT ∷ 0 ∷ 0 ∷ 0 ∷ 0 ∷ 0 ∷ 0 ∷ 0 ∷ 0 ∷ 0 ∷ []
 
 -- The size of headers, and 0 where there are none.
 abbrev pub size_of : ℕ → ℕ → ℕ
@@ -34,10 +35,10 @@ size_of count size = if count == 0 then 0 else size
 
 -- The numbers of the file header (gABI chapter 4, "ELF Header"), in their three runs of one size.
 abbrev pub file_kinds : FileHead → List ℕ
-file_kinds head = head.kind ∷ 140 ∷ []
+file_kinds head = head.kind ∷ EM_TI_C6000 ∷ []
 
 abbrev pub file_words : FileHead → List ℕ
-file_words head = 1 ∷ head.entry ∷ head.segments_at ∷ head.sections_at ∷ head.flags ∷ []
+file_words head = EV_CURRENT ∷ head.entry ∷ head.segments_at ∷ head.sections_at ∷ head.flags ∷ []
 
 abbrev pub file_counts : FileHead → List ℕ
 file_counts head =

@@ -1,4 +1,5 @@
 use Rattle.std.specs.Prelude.{◌≡◌, ℕ, ◌+◌, ◌-◌, ◌≤◌, List, [], ◌∷◌, ◌++◌, length, replicate}
+use Rattle.c6x_elf_entries.specs.Held.{Holds}
 
 -- Bytes and the place in the file where they begin.
 pub record Part : Type 0 where
@@ -14,13 +15,6 @@ laid from (part ∷ parts) = replicate (part.at - from) 0 ++ (part.bytes ++ laid
 abbrev pub InOrder : ℕ → List Part → Type 0
 InOrder from [] = Unit {0}
 InOrder from (part ∷ parts) = (from ≤ part.at) × InOrder (part.at + length part.bytes) parts
-
--- The file has these bytes at this place.
-pub record Holds (bytes : List ℕ) (at : ℕ) (part : List ℕ) : Type 0 where
-  pub front : List ℕ
-  pub back : List ℕ
-  pub split : bytes ≡ front ++ (part ++ back)
-  pub place : length front ≡ at
 
 abbrev pub AllHeld : List ℕ → List Part → Type 0
 AllHeld bytes [] = Unit {0}

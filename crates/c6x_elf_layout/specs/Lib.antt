@@ -1,3 +1,2 @@
 pub mod HeadRows
 pub mod Laid
-pub mod Rows

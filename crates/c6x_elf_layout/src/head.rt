@@ -1,8 +1,9 @@
 ghost use Rattle.std.specs.Prelude.{◌≡◌, ◌+◌, ◌++◌, OnOk, vec_len};
 ghost use Rattle.c6x_elf_layout.specs.HeadRows.{file_row, FileFits, size_of, section_words, segment_words};
-ghost use Rattle.c6x_elf_layout.specs.Rows.{AreWords, word_row};
+ghost use Rattle.c6x_elf_entries.specs.Rows.{AreWords, word_row};
 
-use crate::number_row::{put_halves, put_words};
+use c6x_elf_entries::abi::{ELFCLASS32, ELFDATA2LSB, ELFDATA2MSB, EM_TI_C6000, EV_CURRENT};
+use c6x_elf_entries::{put_halves, put_words};
 use c6x_elf_headers::{FileHead, SectionHead, SegmentHead};
 use std::alloc::AllocError;
 
@@ -13,16 +14,31 @@ pub fn put_file_head(out: &mut Vec<u8>, big: bool, head: &FileHead) -> Result<()
     ensures end { OnOk result (vec_len out.new ≡ vec_len out.old + 52) }
     ensures fit { OnOk result (FileFits head.now) }
 {
-    let encoding = if big { 2 } else { 1 };
+    let encoding = if big { ELFDATA2MSB } else { ELFDATA2LSB };
     out.extend_from_slice(&[
-        0x7F, b'E', b'L', b'F', 1, encoding, 1, 0, 0, 0, 0, 0, 0, 0, 0, 0,
+        0x7F,
+        b'E',
+        b'L',
+        b'F',
+        ELFCLASS32,
+        encoding,
+        EV_CURRENT as u8,
+        0,
+        0,
+        0,
+        0,
+        0,
+        0,
+        0,
+        0,
+        0,
     ])?;
-    put_halves(out, big, &[head.kind, 140])?;
+    put_halves(out, big, &[head.kind, EM_TI_C6000])?;
     put_words(
         out,
         big,
         &[
-            1,
+            EV_CURRENT,
             head.entry,
             head.segments_at,
             head.sections_at,

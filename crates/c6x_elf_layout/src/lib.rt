@@ -3,7 +3,6 @@
 #![tactic(auto)]
 
 mod head;
-mod number_row;
 mod part;
 
 pub use head::{put_file_head, put_section_head, put_segment_head};

@@ -1,3 +1,4 @@
+ghost use Rattle.std.specs.Prelude.{false};
 ghost use Rattle.c6x_elf.specs.Form.{IsTidy};
 
 use c6x_elf::{ElfError, ElfRule, File, Section, Segment, is_tidy, read_file, write_file};
@@ -82,7 +83,7 @@ fn put_section<W: Write + Drop>(out: &mut W, section: &Section) -> io::Result<()
 
 /// Prints the written form of a tidy file.
 fn put_written<W: Write + Drop>(alloc: Global, out: &mut W, file: &File) -> io::Result<()>
-    requires { IsTidy file.now }
+    requires { IsTidy false file.now }
 {
     match write_file(alloc, file) {
         Ok(bytes) => {

@@ -1,5 +1,6 @@
-use Rattle.std.proofs.Common.{◌≡◌, [], ◌∷◌, refl}
+use Rattle.std.proofs.Common.{◌≡◌, ◌+◌, [], ◌∷◌, refl}
 use Rattle.std.specs.Prelude.{None, Some}
+use Rattle.c6x_elf.specs.Abi.{ET_EXEC, PF_R, PF_W, PF_X, PT_LOAD}
 use Rattle.c6x_module.specs.declared.module.Module.{Module}
 use Rattle.c6x_load.specs.declared.one.One.{One}
 use Rattle.c6x_spec.specs.Places.{least_place}
@@ -11,10 +12,10 @@ use Rattle.c6x_load.specs.Start.{slot_value, start_byte, launch_of}
 abbrev row : Module
 row = record {
   name = [];
-  kind = 2;
+  kind = ET_EXEC;
   entry = 0x10000;
-  text = record { kind = 1; vaddr = 0x10000; memsz = 116; flags = 5; align = 32; bytes = 0xA8 ∷ 2 ∷ 0 ∷ 2 ∷ [] };
-  memory = record { kind = 1; vaddr = 0x12000; memsz = 4; flags = 6; align = 8; bytes = 0 ∷ 0 ∷ 0 ∷ 0 ∷ [] };
+  text = record { kind = PT_LOAD; vaddr = 0x10000; memsz = 116; flags = PF_R + PF_X; align = 32; bytes = 0xA8 ∷ 2 ∷ 0 ∷ 2 ∷ [] };
+  memory = record { kind = PT_LOAD; vaddr = 0x12000; memsz = 4; flags = PF_R + PF_W; align = 8; bytes = 0 ∷ 0 ∷ 0 ∷ 0 ∷ [] };
   symbols = [];
   fields = [];
   needed = [];

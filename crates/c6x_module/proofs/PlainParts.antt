@@ -1,6 +1,7 @@
 use Rattle.std.proofs.Common.{◌≡◌, ℕ, ◌+◌, ◌*◌, ◌%◌, ◌^◌, ◌<◌, ◌≤◌, List, [], ◌∷◌, length, take, drop, min, IsTrue, refl, sym, subst, arith, lit<, lit≤}
 use Rattle.c6x_spec.specs.Fields.{bits_of}
 use Rattle.std.proofs.lemmas.List.{length-take}
+use Rattle.c6x_elf.specs.Abi.{PF_R, PF_W, PF_X, PT_LOAD}
 use Rattle.c6x_elf.specs.declared.segment.Segment.{Segment}
 use Rattle.c6x_module.specs.declared.header.Head.{Head}
 use Rattle.c6x_module.specs.declared.module.Module.{Module}
@@ -15,7 +16,7 @@ unfolding head_bytes
 bytes_fit bytes head = rw length-take (omega arith)
 
 -- a header that keeps the rules gives a segment that does
-loadable : (bytes : List ℕ) (head : Head) → head.kind ≡ 1 → IsRange head → IsTrue (is_alignment head.align) → IsLoadable (segment_of bytes head)
+loadable : (bytes : List ℕ) (head : Head) → head.kind ≡ PT_LOAD → IsRange head → IsTrue (is_alignment head.align) → IsLoadable (segment_of bytes head)
 loadable bytes head kind room alignment = record {
   kind = kind;
   filled = let fit = bytes_fit bytes head in omega arith;
@@ -24,11 +25,11 @@ loadable bytes head kind room alignment = record {
   alignment = alignment;
 }
 
--- a text of flags 5 may be run and not written, a data range of flags 6 the other way round
-may_run : (flags : ℕ) → flags ≡ 5 → (bits_of flags 0 1 ≡ 1) × (bits_of flags 1 1 ≡ 0)
+-- a text that may be read and run is not written, a data range the other way round
+may_run : (flags : ℕ) → flags ≡ PF_R + PF_X → (bits_of flags 0 1 ≡ 1) × (bits_of flags 1 1 ≡ 0)
 may_run flags is = rw is (refl, refl)
 
-may_write : (flags : ℕ) → flags ≡ 6 → (bits_of flags 0 1 ≡ 0) × (bits_of flags 1 1 ≡ 1)
+may_write : (flags : ℕ) → flags ≡ PF_R + PF_W → (bits_of flags 0 1 ≡ 0) × (bits_of flags 1 1 ≡ 1)
 may_write flags is = rw is (refl, refl)
 
 valid_at : (name bytes : List ℕ) → ArePlainParts bytes → IsValid (module_of name bytes)

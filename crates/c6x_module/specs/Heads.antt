@@ -1,5 +1,6 @@
 use Rattle.std.specs.Prelude.{◌≡◌, ℕ, ◌+◌, ◌*◌, ◌%◌, ◌^◌, ◌<◌, ◌≤◌, ◌⊎◌, IsTrue, List, length}
 use Rattle.c6x_base.specs.declared.limits.TheConstants.{MOST_FILE_BYTES, MOST_HELD_BYTES}
+use Rattle.c6x_elf.specs.Abi.{PF_R, PF_W, PF_X, PT_LOAD}
 use Rattle.c6x_module.specs.declared.header.Head.{Head}
 use Rattle.c6x_module.specs.declared.dynamics.Tags.{Tags}
 use Rattle.c6x_module.specs.Alignment.{is_alignment}
@@ -19,10 +20,10 @@ HeadsApart a b = ((a.memsz ≡ 0) ⊎ (b.memsz ≡ 0)) ⊎ ((a.vaddr + a.memsz �
 
 -- What the program headers of a plain file keep, as facts.
 pub record AreHeads (bytes : List ℕ) (text range dynamic : Head) : Type 0 where
-  pub text_kind : text.kind ≡ 1
-  pub text_flags : text.flags ≡ 5
-  pub range_kind : range.kind ≡ 1
-  pub range_flags : range.flags ≡ 6
+  pub text_kind : text.kind ≡ PT_LOAD
+  pub text_flags : text.flags ≡ PF_R + PF_X
+  pub range_kind : range.kind ≡ PT_LOAD
+  pub range_flags : range.flags ≡ PF_R + PF_W
   pub text_bytes : IsInFile bytes text
   pub range_bytes : IsInFile bytes range
   pub dynamic_bytes : IsInFile bytes dynamic

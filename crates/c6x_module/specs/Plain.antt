@@ -2,6 +2,7 @@ use Rattle.std.specs.Prelude.{ℕ, ◌+◌, ◌-◌, ◌*◌, ◌%◌, ◌^◌, 
 use Rattle.std.specs.Str.{bytes_eq}
 use Rattle.c6x_spec.specs.Numbers.{half_at, word_at}
 use Rattle.c6x_base.specs.declared.limits.TheConstants.{MOST_FILE_BYTES, MOST_HELD_BYTES}
+use Rattle.c6x_elf.specs.Abi.{DT_DSBT_BASE, DT_DSBT_INDEX, DT_DSBT_SIZE, DT_HASH, DT_NULL, DT_STRSZ, DT_STRTAB, DT_SYMENT, DT_SYMTAB, ELFCLASS32, ELFDATA2LSB, EM_TI_C6000, ET_EXEC, EV_CURRENT, PF_R, PF_W, PF_X, PT_DYNAMIC, PT_LOAD, SHN_UNDEF}
 use Rattle.c6x_elf.specs.declared.segment.Segment.{Segment}
 use Rattle.c6x_module.specs.declared.header.Head.{Head}
 use Rattle.c6x_module.specs.declared.dynamics.Tags.{Tags}
@@ -22,14 +23,14 @@ slice_at bytes at count = take count (drop at bytes)
 
 -- 7F, `ELF`, 32 bits, little-endian, version 1 (gABI chapter 4, "ELF Identification").
 abbrev pub identification : List ℕ
-identification = 0x7F ∷ 0x45 ∷ 0x4C ∷ 0x46 ∷ 1 ∷ 1 ∷ 1 ∷ []
+identification = 0x7F ∷ 0x45 ∷ 0x4C ∷ 0x46 ∷ ELFCLASS32 ∷ ELFDATA2LSB ∷ EV_CURRENT ∷ []
 
--- The file header of a plain file (gABI chapter 4, "ELF Header"): an executable (2) of the C6000 (140), whose three
+-- The file header of a plain file (gABI chapter 4, "ELF Header"): an executable of the C6000, whose three
 -- program headers of 32 bytes follow at 52, and which has no sections. The greatest length is this project's own.
 unfoldable pub is_plain_header : List ℕ → Bool
 is_plain_header bytes =
     nat_le 148 (length bytes) && nat_le (length bytes) MOST_FILE_BYTES && bytes_eq (take 7 bytes) identification
-    && half bytes 16 == 2 && half bytes 18 == 140 && word bytes 20 == 1 && word bytes 28 == 52
+    && half bytes 16 == ET_EXEC && half bytes 18 == EM_TI_C6000 && word bytes 20 == EV_CURRENT && word bytes 28 == 52
     && half bytes 42 == 32 && half bytes 44 == 3 && half bytes 48 == 0 && half bytes 50 == 0
 
 -- The program header at an offset (gABI chapter 5, "Program Header"), but for its physical address.
@@ -79,11 +80,12 @@ are_apart a b =
 unfoldable pub are_aligned : Head → Head → Bool
 are_aligned text range = text.vaddr % 32 == 0 && is_alignment text.align && is_alignment range.align
 
--- The program headers of a plain file: a LOAD (1) that may be read and run (5), a LOAD that may be read and written
--- (6), and a DYNAMIC (2), each with its bytes in the file.
+-- The program headers of a plain file: a LOAD that may be read and run, a LOAD that may be read and written, and a
+-- DYNAMIC, each with its bytes in the file.
 unfoldable pub are_plain_heads : List ℕ → Head → Head → Head → Bool
 are_plain_heads bytes text range dynamic =
-    text.kind == 1 && text.flags == 5 && range.kind == 1 && range.flags == 6 && dynamic.kind == 2
+    text.kind == PT_LOAD && text.flags == PF_R + PF_X && range.kind == PT_LOAD && range.flags == PF_R + PF_W
+    && dynamic.kind == PT_DYNAMIC
     && is_in_file bytes text && is_in_file bytes range && is_in_file bytes dynamic
     && is_loadable text && is_loadable range && are_apart text range && are_aligned text range
 
@@ -94,15 +96,15 @@ tag_at entries number = word entries (8 * number)
 abbrev value_at : List ℕ → ℕ → ℕ
 value_at entries number = word entries (8 * number + 4)
 
--- The dynamic entries of a plain file begin with HASH (4), STRTAB (5), SYMTAB (6), STRSZ (10) of 1, SYMENT (11) of 16,
--- DSBT_BASE, DSBT_SIZE, DSBT_INDEX of 0 (SPRAB89, 0x70000000 and on) and NULL (0).
+-- The dynamic entries of a plain file begin with HASH, STRTAB, SYMTAB, STRSZ of 1, SYMENT of 16, DSBT_BASE, DSBT_SIZE,
+-- DSBT_INDEX of 0 (SPRAB89) and NULL.
 unfoldable pub are_plain_entries : List ℕ → Bool
 are_plain_entries entries =
     nat_le 72 (length entries)
-    && tag_at entries 0 == 4 && tag_at entries 1 == 5 && tag_at entries 2 == 6
-    && tag_at entries 3 == 10 && value_at entries 3 == 1 && tag_at entries 4 == 11 && value_at entries 4 == 16
-    && tag_at entries 5 == 0x70000000 && tag_at entries 6 == 0x70000001
-    && tag_at entries 7 == 0x70000003 && value_at entries 7 == 0 && tag_at entries 8 == 0
+    && tag_at entries 0 == DT_HASH && tag_at entries 1 == DT_STRTAB && tag_at entries 2 == DT_SYMTAB
+    && tag_at entries 3 == DT_STRSZ && value_at entries 3 == 1 && tag_at entries 4 == DT_SYMENT && value_at entries 4 == 16
+    && tag_at entries 5 == DT_DSBT_BASE && tag_at entries 6 == DT_DSBT_SIZE
+    && tag_at entries 7 == DT_DSBT_INDEX && value_at entries 7 == 0 && tag_at entries 8 == DT_NULL
 
 -- What they say.
 unfoldable pub tags_of : List ℕ → Tags
@@ -170,7 +172,7 @@ segment_of bytes head = record {
 
 -- The null symbol.
 abbrev pub null_symbol : DynSymbol
-null_symbol = record { name = []; value = 0; info = 0; other = 0; section = 0 }
+null_symbol = record { name = []; value = 0; info = 0; other = 0; section = SHN_UNDEF }
 
 -- The module of a plain file.
 unfoldable pub module_of : List ℕ → List ℕ → Module
@@ -178,7 +180,7 @@ module_of name bytes =
     let tags = tags_of (head_bytes bytes (dynamic_head bytes)) in
     record {
       name = name;
-      kind = 2;
+      kind = ET_EXEC;
       entry = file_entry bytes;
       text = segment_of bytes (text_head bytes);
       memory = segment_of bytes (data_head bytes);

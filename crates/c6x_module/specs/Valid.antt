@@ -1,22 +1,23 @@
 use Rattle.std.specs.Prelude.{◌≡◌, ℕ, ◌+◌, ◌*◌, ◌%◌, ◌^◌, ◌<◌, ◌≤◌, ◌⊎◌, IsTrue, List, [], length, sum_by, AllPairs, All}
 use Rattle.c6x_spec.specs.Fields.{bits_of}
 use Rattle.c6x_base.specs.declared.limits.TheConstants.{MOST_HELD_BYTES, MOST_NAMES_BYTES}
+use Rattle.c6x_elf.specs.Abi.{PT_LOAD}
 use Rattle.c6x_elf.specs.declared.segment.Segment.{Segment}
 use Rattle.c6x_module.specs.declared.module.Module.{Module}
 use Rattle.c6x_module.specs.declared.symbol.DynSymbol.{DynSymbol}
 use Rattle.c6x_module.specs.declared.field.Field.{Field}
 use Rattle.c6x_module.specs.Alignment.{is_alignment}
 
--- A load segment (kind 1, gABI chapter 5) has room for its bytes in memory and ends below 2^32. The greatest size is
+-- A load segment (gABI chapter 5, "Program Header") has room for its bytes in memory and ends below 2^32. The greatest size is
 -- this project's own.
 pub record IsLoadable (s : Segment) : Type 0 where
-  pub kind : s.kind ≡ 1
+  pub kind : s.kind ≡ PT_LOAD
   pub filled : length s.bytes ≤ s.memsz
   pub size : s.memsz ≤ MOST_HELD_BYTES
   pub range : s.vaddr + s.memsz < 2 ^ 32
   pub alignment : IsTrue (is_alignment s.align)
 
--- A segment may be run (flag 1) or written (flag 2), and not both.
+-- A segment may be run (bit 0 of its flags, PF_X) or written (bit 1, PF_W), and not both.
 abbrev pub MayRun : Segment → Type 0
 MayRun s = (bits_of s.flags 0 1 ≡ 1) × (bits_of s.flags 1 1 ≡ 0)
 

@@ -3,6 +3,10 @@ ghost use Rattle.c6x_module.specs.Plain.{are_plain_entries, tags_of, is_table_in
 ghost use Rattle.c6x_module.specs.Heads.{IsRange, IsTableInside, IsEntryInside, IsModule};
 
 use crate::header::{Head, word};
+use c6x_elf::abi::{
+    DT_DSBT_BASE, DT_DSBT_INDEX, DT_DSBT_SIZE, DT_HASH, DT_NULL, DT_STRSZ, DT_STRTAB, DT_SYMENT,
+    DT_SYMTAB,
+};
 
 /// What the dynamic entries of a plain file say.
 #[derive(Clone, Copy, Debug)]
@@ -26,18 +30,18 @@ fn are_plain_entries(entries: &[u8]) -> bool
     ensures long { IsTrue result → 72 ≤ length entries.now }
 {
     entries.len() >= 72
-        && word(entries, 0) == 4
-        && word(entries, 8) == 5
-        && word(entries, 16) == 6
-        && word(entries, 24) == 10
+        && word(entries, 0) == DT_HASH
+        && word(entries, 8) == DT_STRTAB
+        && word(entries, 16) == DT_SYMTAB
+        && word(entries, 24) == DT_STRSZ
         && word(entries, 28) == 1
-        && word(entries, 32) == 11
+        && word(entries, 32) == DT_SYMENT
         && word(entries, 36) == 16
-        && word(entries, 40) == 0x7000_0000
-        && word(entries, 48) == 0x7000_0001
-        && word(entries, 56) == 0x7000_0003
+        && word(entries, 40) == DT_DSBT_BASE
+        && word(entries, 48) == DT_DSBT_SIZE
+        && word(entries, 56) == DT_DSBT_INDEX
         && word(entries, 60) == 0
-        && word(entries, 64) == 0
+        && word(entries, 64) == DT_NULL
 }
 
 /// What the dynamic entries say.

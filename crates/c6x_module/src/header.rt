@@ -4,9 +4,18 @@ ghost use Rattle.c6x_module.specs.Plain.{is_plain_header, head_at, identificatio
 
 use byteorder::{ByteOrder, LittleEndian};
 use c6x_base::limits::MOST_FILE_BYTES;
+use c6x_elf::abi::{ELFCLASS32, ELFDATA2LSB, EM_TI_C6000, ET_EXEC, EV_CURRENT};
 
 /// 32 bits, little-endian, version 1 (gABI chapter 4, "ELF Identification").
-const IDENTIFICATION: [u8; 7] = [0x7F, b'E', b'L', b'F', 1, 1, 1];
+const IDENTIFICATION: [u8; 7] = [
+    0x7F,
+    b'E',
+    b'L',
+    b'F',
+    ELFCLASS32,
+    ELFDATA2LSB,
+    EV_CURRENT as u8,
+];
 
 /// A program header (gABI chapter 5, "Program Header"), but for its physical address.
 #[derive(Clone, Copy, Debug)]
@@ -48,9 +57,9 @@ pub fn is_plain_header(bytes: &[u8]) -> bool
     bytes.len() >= 148
         && bytes.len() <= MOST_FILE_BYTES as usize
         && &bytes[..7] == IDENTIFICATION.as_slice()
-        && half(bytes, 16) == 2
-        && half(bytes, 18) == 140
-        && word(bytes, 20) == 1
+        && half(bytes, 16) == ET_EXEC
+        && half(bytes, 18) == EM_TI_C6000
+        && word(bytes, 20) == EV_CURRENT
         && word(bytes, 28) == 52
         && half(bytes, 42) == 32
         && half(bytes, 44) == 3

@@ -7,7 +7,7 @@ use c6x_elf::Segment;
 #[derive(Debug, Drop)]
 pub struct Module {
     pub name: Name,
-    /// The file's type: 2 is an executable, 3 a shared object.
+    /// The file's type: ET_EXEC or ET_DYN.
     pub kind: u16,
     /// The address of the first instruction, as in the file.
     pub entry: u32,

@@ -12,6 +12,7 @@ use crate::segments::{are_plain_heads, head_bytes};
 use crate::symbol::DynSymbol;
 use c6x_base::{Bytes, Name, Row};
 use c6x_elf::Segment;
+use c6x_elf::abi::{ET_EXEC, SHN_UNDEF};
 use std::alloc::{AllocError, Global};
 
 /// The module of a plain file, under this name.
@@ -80,7 +81,7 @@ fn null_symbol(alloc: Global) -> Result<DynSymbol, AllocError>
         value: 0,
         info: 0,
         other: 0,
-        section: 0,
+        section: SHN_UNDEF,
     })
 }
 
@@ -97,7 +98,7 @@ fn module_of(alloc: Global, name: &Name, bytes: &[u8]) -> Result<Module, AllocEr
     symbols.push(null_symbol(alloc)?)?;
     Ok(Module {
         name: name.copy(alloc)?,
-        kind: 2,
+        kind: ET_EXEC,
         entry: word(bytes, 24),
         text,
         memory,

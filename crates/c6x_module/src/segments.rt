@@ -5,6 +5,13 @@ ghost use Rattle.c6x_module.specs.Heads.{IsInFile, IsRange, HeadsApart, AreHeads
 
 use crate::header::Head;
 use c6x_base::limits::MOST_HELD_BYTES;
+use c6x_elf::abi::{PF_R, PF_W, PF_X, PT_DYNAMIC, PT_LOAD};
+
+/// The flags of a text: it may be read and run.
+const TEXT_FLAGS: u32 = PF_R + PF_X;
+
+/// The flags of a data range: it may be read and written.
+const RANGE_FLAGS: u32 = PF_R + PF_W;
 
 /// The segment's bytes lie wholly in the file.
 #[tactic(auto, unfolding(crate::specs::Plain::is_in_file))]
@@ -73,11 +80,11 @@ pub fn are_plain_heads(bytes: &[u8], text: &Head, range: &Head, dynamic: &Head) 
     ensures value { result ≡ are_plain_heads bytes.now text.now range.now dynamic.now }
     ensures facts { IsTrue result → AreHeads bytes.now text.now range.now dynamic.now }
 {
-    text.kind == 1
-        && text.flags == 5
-        && range.kind == 1
-        && range.flags == 6
-        && dynamic.kind == 2
+    text.kind == PT_LOAD
+        && text.flags == TEXT_FLAGS
+        && range.kind == PT_LOAD
+        && range.flags == RANGE_FLAGS
+        && dynamic.kind == PT_DYNAMIC
         && is_in_file(bytes, text)
         && is_in_file(bytes, range)
         && is_in_file(bytes, dynamic)

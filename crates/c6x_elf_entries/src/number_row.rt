@@ -1,5 +1,5 @@
 ghost use Rattle.std.specs.Prelude.{◌≡◌, ◌*◌, ◌+◌, ◌++◌, length, OnOk, vec_len};
-ghost use Rattle.c6x_elf_layout.specs.Rows.{AreHalves, AreWords, half_bytes, half_row, word_bytes, word_row};
+ghost use Rattle.c6x_elf_entries.specs.Rows.{AreHalves, AreWords, half_bytes, half_row, word_bytes, word_row};
 
 use byteorder::{BigEndian, ByteOrder, LittleEndian};
 use std::alloc::AllocError;

@@ -1,6 +1,6 @@
 use Rattle.std.proofs.Common.{◌≡◌, ℕ, ◌+◌, ◌<◌, ◌≤◌, List, [], ◌++◌, length, take, drop, get_or, refl, sym, ap, ◌∙◌, append_assoc, length-append, subst, arith}
 use Rattle.std.proofs.lemmas.List.{append-nil, drop_at, take_at, get_or-append-add, get_or_append_left, take-append-drop, length-take-le}
-use Rattle.c6x_elf_layout.specs.Laid.{Holds}
+use Rattle.c6x_elf_entries.specs.Held.{Holds}
 
 -- bytes hold themselves
 pub holds_all : (bytes : List ℕ) → Holds bytes 0 bytes
@@ -53,3 +53,12 @@ holds_inner bytes at part k n place h within is =
     let len : at + length (take k part) ≡ place = ap (λ m. at + m) (length-take-le k part (omega arith)) ∙ is in
     holds_left bytes place (take n (drop k part)) (drop n (drop k part))
     (subst Q (sym back) (holds_right bytes at (take k part) (drop k part) place (subst P (sym front) h) len))
+
+-- what is put behind other bytes is held
+pub holds_behind : (old part new : List ℕ) (at : ℕ) → new ≡ old ++ part → length old ≡ at → Holds new at part
+holds_behind old part new at is place = record {
+  front = old;
+  back = [];
+  split = is ∙ ap (λ xs. old ++ xs) (sym (append-nil part));
+  place = place;
+}

@@ -1,6 +1,6 @@
 use Rattle.std.proofs.Common.{arith}
-use Rattle.c6x_elf_layout.proofs.NumberRows.{halves_step}
-use Rattle.c6x_elf_layout.proofs.number_row.put_halves.Goals as goal
+use Rattle.c6x_elf_entries.proofs.NumberRows.{halves_step}
+use Rattle.c6x_elf_entries.proofs.number_row.put_halves.Goals as goal
 
 pub loop-half-preserved : goal.loop-half-preserved
 loop-half-preserved c = record {

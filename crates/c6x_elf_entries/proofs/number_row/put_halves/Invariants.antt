@@ -1,6 +1,6 @@
 use Rattle.std.proofs.Common.{◌≡◌, ◌+◌, ◌*◌, ◌++◌, take, vec_len}
-use Rattle.c6x_elf_layout.specs.Rows.{half_row}
-use Rattle.c6x_elf_layout.proofs.number_row.put_halves.Given as goal
+use Rattle.c6x_elf_entries.specs.Rows.{half_row}
+use Rattle.c6x_elf_entries.proofs.number_row.put_halves.Given as goal
 
 abbrev pub invariant-loop-half : goal.invariant-loop-half
 invariant-loop-half l = record {

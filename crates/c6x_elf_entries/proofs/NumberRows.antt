@@ -3,9 +3,9 @@ use Rattle.byteorder.specs.Endian.{big_bytes, little_bytes}
 use Rattle.std.proofs.lemmas.List.{append-nil, take_more}
 use Rattle.std.proofs.lemmas.Nat.{from_le_bytes-to_le_bytes_2, from_le_bytes-to_le_bytes_4, from_be_bytes-to_be_bytes_2, from_be_bytes-to_be_bytes_4}
 use Rattle.c6x_spec.specs.Numbers.{half_at, word_at}
-use Rattle.c6x_elf_layout.specs.Laid.{Holds}
-use Rattle.c6x_elf_layout.specs.Rows.{AreHalves, AreWords, SpellsHalves, SpellsWords, half_bytes, half_row, word_bytes, word_row}
-use Rattle.c6x_elf_layout.proofs.Holdings.{holds_byte, holds_left, holds_right}
+use Rattle.c6x_elf_entries.specs.Held.{Holds}
+use Rattle.c6x_elf_entries.specs.Rows.{AreHalves, AreWords, SpellsHalves, SpellsWords, half_bytes, half_row, word_bytes, word_row}
+use Rattle.c6x_elf_entries.proofs.Holdings.{holds_byte, holds_left, holds_right}
 
 -- a row with one number more
 word_row_push : (big : Bool) (xs : List ℕ) (n : ℕ) → word_row big (xs ++ n ∷ []) ≡ word_row big xs ++ word_bytes big n

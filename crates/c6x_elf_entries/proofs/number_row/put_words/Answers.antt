@@ -1,6 +1,6 @@
 use Rattle.std.proofs.Common.{arith}
-use Rattle.c6x_elf_layout.proofs.NumberRows.{words_step}
-use Rattle.c6x_elf_layout.proofs.number_row.put_words.Goals as goal
+use Rattle.c6x_elf_entries.proofs.NumberRows.{words_step}
+use Rattle.c6x_elf_entries.proofs.number_row.put_words.Goals as goal
 
 pub loop-word-preserved : goal.loop-word-preserved
 loop-word-preserved c = record {

@@ -1,6 +1,6 @@
 use Rattle.std.proofs.Common.{◌≡◌, ◌+◌, ◌*◌, ◌++◌, take, vec_len}
-use Rattle.c6x_elf_layout.specs.Rows.{word_row}
-use Rattle.c6x_elf_layout.proofs.number_row.put_words.Given as goal
+use Rattle.c6x_elf_entries.specs.Rows.{word_row}
+use Rattle.c6x_elf_entries.proofs.number_row.put_words.Given as goal
 
 abbrev pub invariant-loop-word : goal.invariant-loop-word
 invariant-loop-word l = record {
