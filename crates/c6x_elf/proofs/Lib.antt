@@ -11,3 +11,9 @@ pub mod Spots
 pub mod Unpacked
 pub mod Walks
 pub mod WayBack
+pub use Rattle.c6x_elf_entries.proofs.EntryRows
+pub use Rattle.c6x_elf_entries.proofs.Holdings
+pub use Rattle.c6x_elf_entries.proofs.NameTables
+pub use Rattle.c6x_elf_entries.proofs.NumberRows
+pub use Rattle.c6x_elf_layout.proofs.Layouts
+pub use Rattle.c6x_elf_layout.proofs.Passing

@@ -17,3 +17,8 @@ pub use Rattle.c6x_elf_entries.specs.Rows
 pub use Rattle.c6x_elf_headers.specs.Header
 pub use Rattle.c6x_elf_headers.specs.Rules
 pub use Rattle.c6x_elf_layout.specs.Laid
+pub use Rattle.c6x_elf_entries.specs.declared.section_class.SectionClass.TheVariants as SectionClasses
+pub use Rattle.c6x_elf_entries.specs.declared.symbol_binding.SymbolBinding.TheVariants as Bindings
+pub use Rattle.c6x_elf_entries.specs.declared.visibility.Visibility.TheVariants as Visibilities
+pub use Rattle.c6x_elf_headers.specs.declared.elf_error.ElfError.TheVariants as ElfErrors
+pub use Rattle.c6x_elf_headers.specs.declared.elf_rule.ElfRule.TheVariants as ElfRules

@@ -3,7 +3,6 @@ pub use Rattle.c6x_elf_entries.specs.declared.dyn_entry.Dyn.{Dyn}
 pub use Rattle.c6x_elf_entries.specs.declared.rela_entry.Rela.{Rela}
 pub use Rattle.c6x_elf_entries.specs.declared.section_class.SectionClass.{SectionClass}
 pub use Rattle.c6x_elf_entries.specs.declared.symbol_binding.SymbolBinding.{SymbolBinding}
-pub use Rattle.c6x_elf_entries.specs.declared.symbol_binding.SymbolBinding.TheVariants.{Local, Global, Weak}
 pub use Rattle.c6x_elf_entries.specs.declared.symbol_entry.Symbol.{Symbol}
 pub use Rattle.c6x_elf_entries.specs.declared.visibility.Visibility.{Visibility}
 pub use Rattle.c6x_elf_headers.specs.declared.elf_error.ElfError.{ElfError}

@@ -23,13 +23,13 @@ mod writing;
 
 pub use c6x_elf_entries::{
     Dyn, NameTable, Rela, SectionClass, Symbol, SymbolBinding, Visibility, abi, dynamic, hash,
-    info_of, name_at, put_dynamic, put_rela, put_symbol, read_dynamic, read_rela, read_symbol,
-    rela, symbol,
+    info_of, name_at, put_dynamic, put_rela, put_symbol, read_dynamic, read_rela, read_relas,
+    read_symbol, read_symbols, rela, symbol,
 };
 pub use c6x_elf_headers::{ElfError, ElfRule};
 pub use file::File;
 pub use laws::{read_form_is_well_formed, segments_alone_are_tidy};
-pub use lists::{is_under, section_bytes, section_name, symbol_table};
+pub use lists::{is_under, section_bytes, section_name, symbol_table, symbols};
 pub use reading::read_file;
 pub use section::Section;
 pub use segment::Segment;

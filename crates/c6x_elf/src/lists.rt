@@ -1,11 +1,12 @@
-ghost use Rattle.std.specs.Prelude.{◌≡◌, ◌<◌, IfSome, length};
+ghost use Rattle.std.specs.Prelude.{◌≡◌, ◌<◌, IfOk, IfSome, length};
 ghost use Rattle.c6x_elf.specs.Entries.{text_of};
-ghost use Rattle.c6x_elf.specs.Lists.{is_end, is_under, section_name, symtab_of};
+ghost use Rattle.c6x_elf.specs.Lists.{is_end, is_under, section_name, symbols_of, symtab_of};
 
 use crate::file::File;
 use crate::section::Section;
 use c6x_elf_entries::abi::SHT_SYMTAB;
-use c6x_elf_entries::name_at;
+use c6x_elf_entries::{Symbol, name_at, read_symbols};
+use std::alloc::{AllocError, Global};
 
 /// The bytes of the section with this number; none where there is no such section.
 #[tactic(auto, unfolding(crate::specs::Entries::text_of), using(crate::proofs::EntryWalks::text_here, crate::proofs::EntryWalks::text_past))]
@@ -27,6 +28,17 @@ pub fn symbol_table(sections: &[Section]) -> Option<usize>
     sections
         .iter()
         .position(|section| section.kind == SHT_SYMTAB)
+}
+
+/// The symbols of a file, which are those of its first symbol table.
+#[tactic(auto, unfolding(crate::specs::Lists::symbols_of), using(crate::proofs::EntryWalks::text_here))]
+pub fn symbols(alloc: Global, big: bool, sections: &[Section]) -> Result<Vec<Symbol>, AllocError>
+    ensures { IfOk result (λ symbols. symbols.items ≡ symbols_of big sections.now) }
+{
+    match symbol_table(sections) {
+        Some(number) => read_symbols(alloc, big, sections[number].bytes.as_bytes()),
+        None => Ok(Vec::new(alloc)),
+    }
 }
 
 /// The name of a section of a file; it is empty where the file has no names of sections.

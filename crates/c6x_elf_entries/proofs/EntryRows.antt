@@ -5,7 +5,7 @@ use Rattle.std.proofs.lemmas.Int.{ints, to_z-of_z}
 use Rattle.std.specs.Prelude.{All, slice_index}
 use Rattle.std.specs.Int.{cast_signed, cast_unsigned, w32}
 use Rattle.std.specs.List.{flat_map, range_with_len, slice_get}
-use Rattle.std.proofs.lemmas.List.FromFn.{get_or-map-range_with_len, length-map-range_with_len}
+use Rattle.std.proofs.lemmas.List.FromFn.{get_or-map-range_with_len, length-map-range_with_len, map-range_with_len_more}
 use Rattle.std.proofs.lemmas.Option.{slice_get-get_or, slice_get_past}
 use Rattle.c6x_spec.specs.Numbers.{half_at, word_at}
 use Rattle.c6x_elf_entries.specs.Entries.{dynamic_at, dynamic_entries, dynamic_of, rela_at, rela_entries, rela_of, symbol_at, symbol_entries, symbol_of}
@@ -127,6 +127,12 @@ listed f n number false below past =
     let least : n ≤ number = past refl in
     let len = length-map-range_with_len f 0 n in
     slice_get_past (map f (range_with_len 0 n)) number (omega arith)
+
+pub symbols_more : (big : Bool) (table : List ℕ) (number : ℕ) → map (symbol_at big table) (range_with_len 0 (number + 1)) ≡ map (symbol_at big table) (range_with_len 0 number) ++ symbol_at big table number ∷ []
+symbols_more big table number = map-range_with_len_more (symbol_at big table) 0 number number (zero-add number)
+
+pub relas_more : (big : Bool) (table : List ℕ) (number : ℕ) → map (rela_at big table) (range_with_len 0 (number + 1)) ≡ map (rela_at big table) (range_with_len 0 number) ++ rela_at big table number ∷ []
+relas_more big table number = map-range_with_len_more (rela_at big table) 0 number number (zero-add number)
 
 pub symbol_listed : (big : Bool) (table : List ℕ) (number : ℕ) → slice_get (symbol_entries big table) number ≡ symbol_of big table number
 unfolding symbol_entries

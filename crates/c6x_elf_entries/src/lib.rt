@@ -28,7 +28,9 @@ pub use name_hash::hash;
 pub use name_table::NameTable;
 pub use number::{read_half, read_word};
 pub use number_row::{put_halves, put_words};
-pub use reader::{dynamic, read_dynamic, read_rela, read_symbol, rela, symbol};
+pub use reader::{
+    dynamic, read_dynamic, read_rela, read_relas, read_symbol, read_symbols, rela, symbol,
+};
 pub use rela_entry::Rela;
 pub use section_class::SectionClass;
 pub use symbol_binding::SymbolBinding;
