@@ -1,3 +1,5 @@
+//! Limits of files and of names. They are this project's own; no format asks for them.
+
 /// The most bytes of a file.
 pub const MOST_FILE_BYTES: u32 = 4_194_304;
 
