@@ -1,52 +1,98 @@
--- What the limits of an object say of its sections and names.
-use Rattle.std.proofs.Common.{◌≡◌, ℕ, ◌+◌, ◌^◌, ◌<◌, false, List, ◌++◌, Ok, length, subst, arith}
-use Rattle.c6x_elf.specs.Form.{IsTidy}
-use Rattle.c6x_asm_object.specs.declared.object.Object.{Object}
-use Rattle.c6x_asm_object.specs.declared.part.Part.{Part}
-use Rattle.c6x_asm_object.specs.declared.symbol.Symbol.{Symbol}
-use Rattle.c6x_asm_object.specs.Symbols.{names_total}
-use Rattle.c6x_asm_form.specs.Filing.{file_of, named_strtab, sections_of}
-use Rattle.c6x_asm_form.specs.Headers.{table_section}
-use Rattle.c6x_asm_form.specs.Limits.{is_large}
-use Rattle.c6x_asm_form.proofs.Limited.{IsLimited, IsShort, limited, or_later, short_from}
-use Rattle.c6x_asm_form.proofs.Lists.{Each, each_back}
-use Rattle.c6x_asm_form.proofs.Places.{arranged, every, length-sections_all, of_parts, of_relas, of_tables}
-use Rattle.c6x_asm_form.proofs.Tidy.{tidy}
-use Rattle.c6x_asm_limits.proofs.Lengths.{length-name_table}
-use Rattle.c6x_asm_steps.specs.States.{state_of}
-use Rattle.c6x_asm_text.specs.Reading.{read_of}
-use Rattle.c6x_asm_text.proofs.Kept.{read_kept}
+-- What is true of the sections and symbols of a text that breaks no rule.
+use Rattle.std.proofs.Common.{◌≡◌, ℕ, ◌+◌, Bool, true, false, cond, List, [], ◌∷◌, Option, Some, None, Result, Ok, Err, refl, ◌∙◌, ap, subst}
+use Rattle.c6x_lex.specs.declared.token.Token.{Token}
+use Rattle.c6x_lex.specs.Tokens.{Spot, tokens_of}
+use Rattle.c6x_asm_lines.specs.declared.lexeme.Lexeme.{Lexeme}
+use Rattle.c6x_asm_lines.specs.declared.line.Line.{Line}
+use Rattle.c6x_asm_lines.specs.Grammar.{line_of}
+use Rattle.c6x_asm_lines.specs.declared.rule.AsmRule.{AsmRule}
+use Rattle.c6x_elf.specs.Parts.{has_bytes}
+use Rattle.c6x_elf.specs.Writing.{offset_end, written_size}
+use Rattle.c6x_asm_form.specs.Filing.{file_of, named_sections, named_shstrtab, named_strtab, named_symtab, sections_of}
+use Rattle.c6x_asm_form.specs.Headers.{null_section, table_section}
+use Rattle.c6x_asm_form.specs.Limits.{is_large, is_long, passes_limit}
+use Rattle.c6x_asm_form.specs.Symbols.{entry_row, name_table, ordered, symbol_numbers, symbol_table}
+use Rattle.c6x_asm_steps.specs.States.{State}
+use Rattle.c6x_asm_steps.specs.Keeping.{IsStateSound}
+use Rattle.c6x_asm_steps.proofs.Steps.{stepped_sound}
+use Rattle.c6x_asm_steps.proofs.Runs.{sound_begins}
+use Rattle.c6x_asm.specs.declared.broken.Broken.{Broken}
+use Rattle.c6x_asm.specs.Lines.{after_lines, counted, lined, lines_of, or_broken, read_line, sized}
+use Rattle.c6x_asm.specs.Reading.{bad_line, before, ended, nothing, or_packet, read_lines, read_of, read_tokens, stopped}
+use Rattle.c6x_asm.specs.Kept.{IsKept}
 
-opened : (text : List ℕ) (ps : List Part) (names : List Symbol) → is_large text ps names ≡ false → IsLimited (file_of text ps names)
-unfolding is_large
-opened text ps names small = limited (file_of text ps names) small
+-- a result that some test lets through
+passed : {T E : Type 0} (b : Bool) (e : E) (x y : T) → cond b (Err e) (Ok x) ≡ Ok y → (b ≡ false) × (x ≡ y)
+passed true e x y is = absurd (cc)
+passed false e x y is = (refl, cc)
 
-few : (text : List ℕ) (ps : List Part) (names : List Symbol) → IsLimited (file_of text ps names) → length ps < 2 ^ 31
-unfolding file_of sections_of
-few text ps names within = omega (arith, within.count, length-sections_all text ps names)
+counted_same : (line : ℕ) (r : Result State AsmRule) (t : State) → counted line r ≡ Ok t → r ≡ Ok t
+counted_same line (Ok s) t is = ap Ok (passed _ _ s t is).1
+counted_same line (Err rule) t is = absurd (cc)
 
-short_names : (text : List ℕ) (ps : List Part) (names : List Symbol) → IsLimited (file_of text ps names) → IsShort (named_strtab text names)
-unfolding file_of sections_of
-short_names text ps names within =
-    let each : Each IsShort (every text ps names) = short_from 1 (every text ps names) (or_later _ _ within.each) in
-    (each_back IsShort (of_relas text ps names) (of_tables text ps names)
-    (each_back IsShort (of_parts text ps) (of_relas text ps names ++ of_tables text ps names)
-    (subst (Each IsShort) (arranged text ps names) each))).1.0
+sized_same : (text : List ℕ) (r : Result State AsmRule) (t : State) → sized text r ≡ Ok t → r ≡ Ok t
+sized_same text (Ok s) t is = ap Ok (passed _ _ s t is).1
+sized_same text (Err rule) t is = absurd (cc)
 
-names_fit : (text : List ℕ) (names : List Symbol) → IsShort (named_strtab text names) → 1 + names_total text names < 2 ^ 32
-unfolding named_strtab table_section
-names_fit text names short = omega (arith, short.bytes, length-name_table text names)
+sized_small : (text : List ℕ) (r : Result State AsmRule) (t : State) → sized text r ≡ Ok t → is_large text t.parts t.symbols ≡ false
+sized_small text (Ok s) t is = let p = passed _ _ s t is in subst (λ u. is_large text u.parts u.symbols ≡ false) p.1 p.0
+sized_small text (Err rule) t is = absurd (cc)
 
--- the sections of an accepted text can be numbered
-pub parts_few : (text : List ℕ) (o : Object) → read_of text ≡ Ok (state_of o) → length o.parts.items < 2 ^ 31
-parts_few text o is = let s = state_of o in few text s.parts s.symbols (opened text s.parts s.symbols (read_kept text s is).small)
+read_sound : (text : List ℕ) (number : ℕ) (line : Option Line) (s t : State) → IsStateSound s → read_line text number line s ≡ Ok t → IsStateSound t
+read_sound text number None s t sound is = absurd (cc)
+read_sound text number (Some l) s t sound is = stepped_sound text number l s t sound is
 
--- the offsets of its names are numbers of 32 bits
-pub names_few : (text : List ℕ) (o : Object) → read_of text ≡ Ok (state_of o) → 1 + names_total text o.symbols.list.items < 2 ^ 32
-names_few text o is =
-    let s = state_of o in
-    names_fit text s.symbols (short_names text s.parts s.symbols (opened text s.parts s.symbols (read_kept text s is).small))
+lined_kept : (text : List ℕ) (number : ℕ) (lexemes : List Lexeme) (s t : State) → IsStateSound s → lined text number lexemes s ≡ Ok t → IsKept text t
+unfolding lined
+lined_kept text number lexemes s t sound is =
+    let read = read_line text number (line_of lexemes) s in
+    let here = counted_same number (sized text read) t is in
+    record { sound = read_sound text number (line_of lexemes) s t sound (sized_same text read t here); small = sized_small text read t here }
 
--- its object is tidy
-pub object_tidy : (text : List ℕ) (o : Object) → read_of text ≡ Ok (state_of o) → IsTidy false (file_of text o.parts.items o.symbols.list.items)
-object_tidy text o is = let s = state_of o in let kept = read_kept text s is in tidy text s.parts s.symbols kept.sound.sound kept.small
+same_state : (r : Result State Broken) (u t : State) → r ≡ Ok u → r ≡ Ok t → u ≡ t
+same_state r u t first second = cc
+
+-- no sections and no symbols
+nothing_small : (text : List ℕ) → is_large text [] [] ≡ false
+unfolding is_large passes_limit is_long file_of sections_of named_sections named_symtab named_strtab named_shstrtab null_section table_section symbol_table entry_row name_table symbol_numbers ordered written_size offset_end has_bytes
+nothing_small text = refl
+
+nothing_kept : (text : List ℕ) → IsKept text nothing
+nothing_kept text = record { sound = sound_begins; small = nothing_small text }
+
+after_kept : (text : List ℕ) (lines : List (List Lexeme)) (number : ℕ) (s t : State) → IsKept text s → after_lines text number s lines ≡ Ok t → IsKept text t
+after_kept text [] number s t kept is = subst (IsKept text) (same_state (Ok s) s t refl is) kept
+after_kept text (line ∷ lines) number s t kept is = by (lined text number line s) refl is (λ u. after_kept text lines (number + 1) u t)
+  where
+    by : (r : Result State AsmRule) → lined text number line s ≡ r → or_broken number r (λ u. after_lines text (number + 1) u lines) ≡ Ok t → ((u : State) → IsKept text u → after_lines text (number + 1) u lines ≡ Ok t → IsKept text t) → IsKept text t
+    by (Ok u) here rest later = later u (lined_kept text number line s u kept.sound here) rest
+    by (Err rule) here rest later = absurd (cc)
+
+lines_kept : (text : List ℕ) (lines : List (List Lexeme)) (t : State) → read_lines text lines ≡ Ok t → IsKept text t
+unfolding read_lines
+lines_kept text lines t is = by (after_lines text 1 nothing lines) refl is
+  where
+    packets : (line : Option ℕ) (u : State) → or_packet line (Ok u) ≡ Ok t → u ≡ t
+    packets None u here = cc
+    packets (Some n) u here = absurd (cc)
+
+    behind : (line : Option ℕ) (e : Broken) → or_packet line (Err e) ≡ Ok t → ⊥
+    behind None e here = cc
+    behind (Some n) e here = cc
+
+    never : (broken : Broken) (r : Result State Broken) → stopped broken r ≡ Ok t → ⊥
+    never broken (Ok u) here = behind (bad_line None u.parts) broken here
+    never broken (Err other) here = cc
+
+    by : (r : Result State Broken) → after_lines text 1 nothing lines ≡ r → ended text lines r ≡ Ok t → IsKept text t
+    by (Ok u) ran here = after_kept text lines 1 nothing t (nothing_kept text) (ran ∙ ap Ok (packets (bad_line None u.parts) u here))
+    by (Err broken) ran here = absurd (never broken (after_lines text 1 nothing (before broken.line lines)) here)
+
+-- the sections and symbols of an accepted text are sound and pass no limit
+pub read_kept : (text : List ℕ) (t : State) → read_of text ≡ Ok t → IsKept text t
+unfolding read_of
+read_kept text t is = by (tokens_of text) is
+  where
+    by : (r : Result (List Token) Spot) → read_tokens text r ≡ Ok t → IsKept text t
+    by (Ok tokens) here = lines_kept text (lines_of text tokens) t here
+    by (Err spot) here = absurd (cc)

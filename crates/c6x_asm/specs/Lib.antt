@@ -1,1 +1,6 @@
 pub mod Objects
+pub mod Lines
+pub mod Running
+pub mod Kept
+pub mod Reading
+pub mod Packets

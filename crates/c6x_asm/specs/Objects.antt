@@ -3,10 +3,10 @@ use Rattle.std.specs.Prelude.{◌≡◌, ℕ, List, Result, Ok, Err}
 use Rattle.c6x_elf.specs.declared.file.File.{File}
 use Rattle.c6x_asm_form.specs.Filing.{file_of}
 use Rattle.c6x_asm_steps.specs.States.{State}
-use Rattle.c6x_asm_text.specs.declared.asm_error.AsmError.{AsmError}
-use Rattle.c6x_asm_text.specs.declared.asm_error.AsmError.TheVariants.{Rule, NoMemory}
-use Rattle.c6x_asm_text.specs.declared.broken.Broken.{Broken}
-use Rattle.c6x_asm_text.specs.Reading.{read_of}
+use Rattle.c6x_asm.specs.declared.asm_error.AsmError.{AsmError}
+use Rattle.c6x_asm.specs.declared.asm_error.AsmError.TheVariants.{Rule, NoMemory}
+use Rattle.c6x_asm.specs.declared.broken.Broken.{Broken}
+use Rattle.c6x_asm.specs.Reading.{read_of}
 
 abbrev pub object_from : List ℕ → Result State Broken → Result File Broken
 object_from text (Ok s) = Ok (file_of text s.parts s.symbols)

@@ -3,14 +3,15 @@ ghost use Rattle.c6x_elf.specs.Form.{IsTidy};
 ghost use Rattle.c6x_asm_steps.specs.States.{state_of};
 ghost use Rattle.c6x_asm.specs.Objects.{Answers, assembled};
 
-use c6x_asm_sections::file_of;
-use c6x_asm_text::{AsmError, read};
+use crate::asm_error::AsmError;
+use crate::reading::read;
+use c6x_asm_file::file_of;
 use c6x_elf::File;
 use std::alloc::Global;
 
 /// The object file of a text, which is tidy, or the first rule that the text breaks: A1 before all
 /// others, then that of the lowest line, and of one line that with the lowest number.
-#[tactic(auto, unfolding(crate::specs::Objects::assembled), using(crate::proofs::Kept::parts_few, crate::proofs::Kept::names_few, crate::proofs::Kept::object_tidy))]
+#[tactic(auto, unfolding(crate::specs::Objects::assembled), using(crate::proofs::Tidiness::parts_few, crate::proofs::Tidiness::names_few, crate::proofs::Tidiness::object_tidy))]
 pub fn assemble(alloc: Global, text: &[u8]) -> Result<File, AsmError>
     requires { length text.now < 2 ^ 32 }
     ensures is { Answers result (assembled text.now) }

@@ -11,10 +11,10 @@ use Rattle.c6x_asm_lines.specs.declared.value.Value.TheVariants.{Plain as PlainV
 use Rattle.c6x_asm_lines.specs.declared.word.Word.{Word}
 use Rattle.c6x_asm_operands.specs.declared.made.Field.{Field}
 use Rattle.c6x_asm_operands.specs.declared.range.Range.{Range}
-use Rattle.c6x_asm_operands.specs.declared.rule.AsmRule.{AsmRule}
-use Rattle.c6x_asm_operands.specs.declared.rule.AsmRule.TheVariants.{Syntax, UnknownWord, Operand as BadOperand, Range as OutOfRange}
+use Rattle.c6x_asm_lines.specs.declared.rule.AsmRule.{AsmRule}
+use Rattle.c6x_asm_lines.specs.declared.rule.AsmRule.TheVariants.{Syntax, UnknownWord, Operand as BadOperand, Range as OutOfRange}
 use Rattle.c6x_asm_operands.specs.Operands.{constant_operand, field_operand}
-use Rattle.c6x_asm_operands.specs.Rules.{lower, both, ◌>>=◌}
+use Rattle.c6x_asm_lines.specs.Rules.{lower, both, ◌>>=◌}
 use Rattle.c6x_asm_directives.specs.declared.directive.Directive.{Directive}
 use Rattle.c6x_asm_directives.specs.declared.directive.Directive.TheVariants.{Section, Numbers, Space, Align, Mark as Marks, Common, Set}
 use Rattle.c6x_asm_directives.specs.declared.keyword.Keyword.{Keyword}
@@ -32,12 +32,8 @@ is_visible b = nat_le 33 b && nat_le b 126
 abbrev pub is_section_name : List ℕ → Bool
 is_section_name bytes = nat_le 1 (length bytes) && (nat_le (length bytes) 64 && list_all is_visible bytes)
 
--- the bytes between two quotes
-unfoldable pub quoted : List ℕ → ℕ → ℕ → List ℕ
-quoted text at len = if nat_le (at + len) (length text) then slice_range text at (at + len) else []
-
 unfoldable pub section_named : List ℕ → Operand → Result Directive AsmRule
-section_named text (TextOperand at len) = if is_section_name (quoted text at len) then Ok (Section at len) else Err Syntax
+section_named text (TextOperand at len) = if is_section_name (bytes_at text at len) then Ok (Section at len) else Err Syntax
 section_named text _ = Err BadOperand
 
 abbrev pub sect_of : List ℕ → List Operand → Result Directive AsmRule

@@ -9,17 +9,11 @@ use Rattle.c6x_asm_lines.specs.declared.operand.Operand.TheVariants.{Text as Tex
 use Rattle.c6x_asm_lines.specs.declared.plain.Plain.{Plain}
 use Rattle.c6x_asm_lines.specs.declared.value.Value.{Value}
 use Rattle.c6x_asm_lines.specs.declared.value.Value.TheVariants.{Plain as PlainValue, Kind as KindValue}
-use Rattle.c6x_asm_operands.specs.declared.rule.AsmRule.{AsmRule}
-use Rattle.c6x_asm_operands.specs.declared.rule.AsmRule.TheVariants.{Syntax, UnknownWord}
+use Rattle.c6x_asm_lines.specs.declared.rule.AsmRule.{AsmRule}
+use Rattle.c6x_asm_lines.specs.declared.rule.AsmRule.TheVariants.{Syntax, UnknownWord}
 use Rattle.c6x_asm_operands.specs.Names.{kind_of}
-use Rattle.c6x_asm_operands.specs.Operands.{bytes_of}
-use Rattle.c6x_asm_operands.specs.Rules.{lower}
-
--- the lower of two rules, where there are two
-abbrev pub lowest : Option AsmRule → Option AsmRule → Option AsmRule
-lowest None other = other
-lowest (Some a) None = Some a
-lowest (Some a) (Some b) = Some (lower a b)
+use Rattle.c6x_asm_lines.specs.Bytes.{bytes_at}
+use Rattle.c6x_asm_lines.specs.Rules.{lowest}
 
 -- `%dsbt_index` stands alone, and every other kind has an operand in parentheses
 abbrev pub stands_wrong : RelocKind → Option Plain → Bool
@@ -34,7 +28,7 @@ kind_fault (Some kind) inner = if stands_wrong kind inner then Some Syntax else 
 
 abbrev pub value_fault : List ℕ → Value → Option AsmRule
 value_fault text (PlainValue p) = None
-value_fault text (KindValue kind inner) = kind_fault (kind_of (bytes_of text kind)) inner
+value_fault text (KindValue kind inner) = kind_fault (kind_of (bytes_at text kind.at kind.len)) inner
 
 abbrev pub offset_fault : List ℕ → Offset → Option AsmRule
 offset_fault text Missing = None

@@ -1,14 +1,15 @@
 ghost use Rattle.std.specs.Prelude.{◌≡◌, ◌^◌, ◌<◌, ◌≤◌, true, IfOk};
 ghost use Rattle.std.specs.List.{list_all};
 ghost use Rattle.c6x_asm_directives.specs.Bounds.{FitsDirective};
-ghost use Rattle.c6x_asm_directives.specs.Directives.{is_visible, is_section_name, quoted, section_named, sect_of, numbers_of, space_of, is_power, align_of, name_operand, mark_of, common_of, set_of, directive_by};
+ghost use Rattle.c6x_asm_directives.specs.Directives.{is_visible, is_section_name, section_named, sect_of, numbers_of, space_of, is_power, align_of, name_operand, mark_of, common_of, set_of, directive_by};
+ghost use Rattle.c6x_asm_lines.specs.Bytes.{bytes_at};
 
 use crate::directive::Directive;
 use crate::fields::fields_of;
 use crate::keyword::Keyword;
 use crate::mark::Mark;
-use c6x_asm_lines::{Operand, Plain, Value, Word};
-use c6x_asm_operands::{AsmRule, Range, both, constant_operand};
+use c6x_asm_lines::{AsmRule, both, Operand, Plain, Value, Word};
+use c6x_asm_operands::{constant_operand, Range};
 use c6x_base::Row;
 use std::alloc::{AllocError, Global};
 
@@ -48,20 +49,6 @@ fn all_visible(bytes: &[u8]) -> bool
     bytes.iter().all(|b| *b >= 33 && *b <= 126)
 }
 
-/// The bytes between two quotes.
-#[tactic(auto, unfolding(crate::specs::Directives::quoted))]
-pub fn quoted<'t>(text: &'t [u8], at: u32, len: u32) -> &'t [u8]
-    ensures { result.now ≡ quoted text.now at len }
-{
-    let at = at as usize;
-    let len = len as usize;
-    if at + len <= text.len() {
-        &text[at..at + len]
-    } else {
-        &[]
-    }
-}
-
 #[tactic(auto, unfolding(crate::specs::Directives::section_named))]
 fn section_named(text: &[u8], operand: Operand) -> Result<Directive, AsmRule>
     ensures is { result ≡ section_named text.now operand }
@@ -69,7 +56,7 @@ fn section_named(text: &[u8], operand: Operand) -> Result<Directive, AsmRule>
 {
     match operand {
         Operand::Text { at, len } => {
-            if is_section_name(quoted(text, at, len)) {
+            if is_section_name(bytes_at(text, at, len)) {
                 Ok(Directive::Section { at, len })
             } else {
                 Err(AsmRule::Syntax)

@@ -1,20 +1,10 @@
 ghost use Rattle.std.specs.Prelude.{◌≡◌, None};
-ghost use Rattle.c6x_asm_directives.specs.Kinds.{lowest, stands_wrong, kind_fault, value_fault, offset_fault, operand_fault, kinds_from};
+ghost use Rattle.c6x_asm_directives.specs.Kinds.{stands_wrong, kind_fault, value_fault, offset_fault, operand_fault, kinds_from};
+ghost use Rattle.c6x_asm_lines.specs.Rules.{lowest};
 
-use c6x_asm_lines::{Offset, Operand, Plain, Value};
-use c6x_asm_operands::{AsmRule, bytes_of, kind_of, lower};
+use c6x_asm_lines::{AsmRule, bytes_at, lowest, Offset, Operand, Plain, Value};
+use c6x_asm_operands::kind_of;
 use c6x_reloc::RelocKind;
-
-/// The lower of two rules, where there are two.
-pub fn lowest(a: Option<AsmRule>, b: Option<AsmRule>) -> Option<AsmRule>
-    ensures { result ≡ lowest a b }
-{
-    match (a, b) {
-        (None, other) => other,
-        (Some(a), None) => Some(a),
-        (Some(a), Some(b)) => Some(lower(a, b)),
-    }
-}
 
 fn stands_wrong(kind: RelocKind, inner: Option<Plain>) -> bool
     ensures { result ≡ stands_wrong kind inner }
@@ -47,7 +37,7 @@ fn value_fault(text: &[u8], value: Value) -> Option<AsmRule>
 {
     match value {
         Value::Plain(_) => None,
-        Value::Kind { kind, inner } => kind_fault(kind_of(bytes_of(text, kind)), inner),
+        Value::Kind { kind, inner } => kind_fault(kind_of(bytes_at(text, kind.at, kind.len)), inner),
     }
 }
 

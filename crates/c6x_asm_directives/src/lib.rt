@@ -10,8 +10,8 @@ mod mark;
 mod names;
 
 pub use directive::Directive;
-pub use directives::{directive_of, quoted};
+pub use directives::directive_of;
 pub use keyword::Keyword;
-pub use kinds::{kinds_fault, lowest};
+pub use kinds::kinds_fault;
 pub use mark::Mark;
 pub use names::keyword_of;

@@ -1,2 +1,4 @@
 pub mod Counts
 pub mod Rows
+pub mod Names
+pub mod Adds

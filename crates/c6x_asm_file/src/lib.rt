@@ -1,9 +1,14 @@
 //! The object file of an assembled text's sections and symbols.
 #![tactic(auto)]
 
+mod adding;
+mod binding;
+mod entries;
+mod filing;
+mod headers;
 mod kinds;
 mod numbering;
 mod relocating;
+mod strings;
 
-pub use numbering::symbol_numbers;
-pub use relocating::relocation_table;
+pub use filing::file_of;

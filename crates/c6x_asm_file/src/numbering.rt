@@ -2,11 +2,12 @@ ghost use Rattle.std.specs.Prelude.{◌≡◌, ◌+◌, ◌<◌, ◌≤◌, ◌^
 ghost use Rattle.c6x_asm_form.specs.Bindings.{is_local};
 ghost use Rattle.c6x_asm_form.specs.Symbols.{symbol_numbers};
 
+use crate::binding::is_local;
 use c6x_asm_object::Symbol;
-use c6x_asm_tables::is_local;
 use std::alloc::{AllocError, Global};
 
-fn count_local(symbols: &[Symbol]) -> usize
+/// How many of these symbols are local.
+pub fn count_local(symbols: &[Symbol]) -> usize
     ensures is { result ≡ count_by is_local symbols.now }
     ensures few { result ≤ length symbols.now }
 {

@@ -11,7 +11,7 @@ use Rattle.c6x_asm_form.specs.Bindings.{is_local}
 use Rattle.c6x_asm_form.specs.Filing.{Named, has_entries, named_part, named_rela, named_relas, named_shstrtab, named_strtab, named_symtab, names_of, symtab_of}
 use Rattle.c6x_asm_form.specs.Headers.{table_section}
 use Rattle.c6x_asm_form.specs.Relocations.{number_at, relocation_rows}
-use Rattle.c6x_asm_form.specs.Sound.{AreSound, IsEntrySound, IsPartSound, IsSymbolSound}
+use Rattle.c6x_asm_object.specs.Sound.{AreSound, IsEntrySound, IsPartSound, IsSymbolSound}
 use Rattle.c6x_asm_form.specs.Symbols.{name_table, symbol_numbers, symbol_table}
 use Rattle.c6x_asm_form.proofs.Lengths.{length-symbol_table}
 use Rattle.c6x_asm_form.proofs.Limited.{IsShort}

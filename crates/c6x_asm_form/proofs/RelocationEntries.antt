@@ -21,7 +21,7 @@ use Rattle.c6x_reloc.specs.declared.reloc_kind.RelocKind.{RelocKind}
 use Rattle.c6x_reloc.specs.declared.reloc_kind.RelocKind.TheVariants.{NONE, ABS32, ABS16, ABS8, PCR_S21, PCR_S12, PCR_S7, ABS_S16, ABS_L16, ABS_H16, SBR_U15_B, SBR_U15_H, SBR_U15_W, SBR_S16, SBR_L16_B, SBR_L16_H, SBR_L16_W, SBR_H16_B, SBR_H16_H, SBR_H16_W, SBR_GOT_U15_W, SBR_GOT_L16_W, SBR_GOT_H16_W, DSBT_INDEX, JUMP_SLOT, ALIGN, FPHEAD, NOCMP}
 use Rattle.c6x_asm_form.specs.Bindings.{is_local, is_other}
 use Rattle.c6x_asm_form.specs.Relocations.{info_of, kind_number, number_at, relocation_row, relocation_rows}
-use Rattle.c6x_asm_form.specs.Sound.{IsEntrySound}
+use Rattle.c6x_asm_object.specs.Sound.{IsEntrySound}
 use Rattle.c6x_asm_form.specs.Symbols.{symbol_number, symbol_numbers}
 use Rattle.c6x_asm_object.specs.Symbols.{no_symbol, symbol_of}
 use Rattle.c6x_asm_form.proofs.Lengths.{length-relocation_row, length-relocation_rows, locals_before, others_before}

@@ -18,7 +18,7 @@ use Rattle.c6x_elf.proofs.Moves.{both_none}
 use Rattle.c6x_asm_object.specs.declared.spot.Spot.{Spot}
 use Rattle.c6x_asm_object.specs.declared.symbol.Symbol.{Symbol}
 use Rattle.c6x_asm_form.specs.Bindings.{binding, is_local, is_other, spot_or_none, visibility}
-use Rattle.c6x_asm_form.specs.Sound.{IsSpotSound, IsSymbolSound}
+use Rattle.c6x_asm_object.specs.Sound.{IsSpotSound, IsSymbolSound}
 use Rattle.c6x_asm_form.specs.Symbols.{entry_row, name_rows, name_table, ordered, section_rows, symbol_row, symbol_rows, symbol_table}
 use Rattle.c6x_asm_form.proofs.Lengths.{length-entry_row, length-ordered, length-section_rows, length-symbol_table}
 use Rattle.c6x_asm_form.proofs.Lists.{Each, each_append, each_filter, first_append}

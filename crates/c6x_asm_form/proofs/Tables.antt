@@ -15,7 +15,7 @@ use Rattle.c6x_asm_object.specs.declared.part_kind.PartKind.TheVariants.{Text, C
 use Rattle.c6x_asm_object.specs.declared.symbol.Symbol.{Symbol}
 use Rattle.c6x_asm_form.specs.Headers.{null_section, part_section, part_type, table_section}
 use Rattle.c6x_asm_form.specs.Relocations.{number_at, relocation_rows}
-use Rattle.c6x_asm_form.specs.Sound.{IsPartSound, IsSymbolSound}
+use Rattle.c6x_asm_object.specs.Sound.{IsPartSound, IsSymbolSound}
 use Rattle.c6x_asm_form.specs.Symbols.{name_table, symbol_table}
 use Rattle.c6x_asm_form.proofs.Lengths.{length-relocation_rows, length-symbol_table}
 use Rattle.c6x_asm_form.proofs.Lists.{Each}

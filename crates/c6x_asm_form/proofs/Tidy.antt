@@ -19,7 +19,7 @@ use Rattle.c6x_asm_object.specs.declared.symbol.Symbol.{Symbol}
 use Rattle.c6x_asm_form.specs.Filing.{Named, file_of, named_sections, named_shstrtab, names_of, sections_from, sections_of, symtab_of}
 use Rattle.c6x_asm_form.specs.Headers.{null_section, table_section}
 use Rattle.c6x_asm_form.specs.Limits.{is_large, is_long}
-use Rattle.c6x_asm_form.specs.Sound.{AreSound}
+use Rattle.c6x_asm_object.specs.Sound.{AreSound}
 use Rattle.c6x_asm_form.proofs.Keeping.{KeepsNamed, every_keeps}
 use Rattle.c6x_asm_form.proofs.Limited.{IsLimited, IsShort, limited, or_later, short_from, sum_within}
 use Rattle.c6x_asm_form.proofs.Lists.{Each, all_of, each_back}

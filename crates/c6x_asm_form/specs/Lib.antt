@@ -4,4 +4,3 @@ pub mod Relocations
 pub mod Headers
 pub mod Filing
 pub mod Limits
-pub mod Sound

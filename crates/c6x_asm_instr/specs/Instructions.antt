@@ -35,14 +35,15 @@ use Rattle.c6x_asm_operands.specs.declared.path.Path.TheVariants.{Own, Cross, Va
 use Rattle.c6x_asm_operands.specs.declared.place.Place.{Place}
 use Rattle.c6x_asm_operands.specs.declared.place.Place.TheVariants.{Short, Long}
 use Rattle.c6x_asm_operands.specs.declared.range.Range.{Range}
-use Rattle.c6x_asm_operands.specs.declared.rule.AsmRule.{AsmRule}
-use Rattle.c6x_asm_operands.specs.declared.rule.AsmRule.TheVariants.{Syntax, UnknownWord, Operand as BadOperand}
+use Rattle.c6x_asm_lines.specs.declared.rule.AsmRule.{AsmRule}
+use Rattle.c6x_asm_lines.specs.declared.rule.AsmRule.TheVariants.{Syntax, UnknownWord, Operand as BadOperand}
 use Rattle.c6x_asm_operands.specs.declared.unit.Unit.{Unit}
 use Rattle.c6x_asm_operands.specs.Addresses.{place_of}
 use Rattle.c6x_asm_operands.specs.Names.{mnemonic_of, unit_of}
 use Rattle.c6x_asm_operands.specs.Numbers.{number_in}
-use Rattle.c6x_asm_operands.specs.Operands.{bytes_of, same_side, register_on, register_operand, constant_operand, field_operand}
-use Rattle.c6x_asm_operands.specs.Rules.{both, ◌>>=◌}
+use Rattle.c6x_asm_operands.specs.Operands.{same_side, register_on, register_operand, constant_operand, field_operand}
+use Rattle.c6x_asm_lines.specs.Bytes.{bytes_at}
+use Rattle.c6x_asm_lines.specs.Rules.{both, ◌>>=◌}
 
 abbrev pub range_of : ℕ → ℕ → ℕ → ℕ → Range
 range_of below least most modulus = record { below = below; least = least; most = most; step = 1; modulus = modulus }
@@ -255,7 +256,7 @@ with_unit text mnemonic (Some unit) operands = if has_unit mnemonic unit then ma
 -- the unit that a word names, if there is one
 abbrev pub unit_named : List ℕ → Option Word → Option Unit
 unit_named text None = None
-unit_named text (Some word) = unit_of (bytes_of text word)
+unit_named text (Some word) = unit_of (bytes_at text word.at word.len)
 
 abbrev pub is_conditional : Cond → Bool
 is_conditional Always = false
@@ -276,4 +277,4 @@ with_mnemonic text head (Some mnemonic) operands =
 
 -- the instruction that a line's words and operands name, or the lowest rule that they break
 unfoldable pub instruction_of : List ℕ → Head → List Operand → Result Made AsmRule
-instruction_of text head operands = with_mnemonic text head (mnemonic_of (bytes_of text head.word)) operands
+instruction_of text head operands = with_mnemonic text head (mnemonic_of (bytes_at text head.word.at head.word.len)) operands

@@ -2,10 +2,8 @@ ghost use Rattle.std.specs.Prelude.{◌≡◌, ◌<◌, ◌≤◌, IfOk};
 ghost use Rattle.c6x_asm_instr.specs.Instructions.{is_register, target_register, takes_register, branch_of, branch_nop_of, link_register, callp_of, add_kpc_of, nop_of};
 
 use crate::units::is_cross;
-use c6x_asm_lines::{Operand, Plain, Value};
-use c6x_asm_operands::{
-    AsmRule, Made, Range, Unit, both, constant_operand, field_operand, register_operand, same_side,
-};
+use c6x_asm_lines::{AsmRule, both, Operand, Plain, Value};
+use c6x_asm_operands::{constant_operand, field_operand, Made, Range, register_operand, same_side, Unit};
 use c6x_base::Side;
 use c6x_instr::Op;
 use c6x_reloc::RelocKind;

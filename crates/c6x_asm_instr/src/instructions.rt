@@ -5,8 +5,8 @@ use crate::branches::{add_kpc_of, branch_nop_of, branch_of, callp_of, nop_of};
 use crate::memory::memory_on;
 use crate::operations::{move_of, two_of};
 use crate::units::{has_form, is_cross, is_d, is_own, is_s, names_value};
-use c6x_asm_lines::{Head, Operand, Word};
-use c6x_asm_operands::{AsmRule, Made, Mnemonic, Unit, bytes_of, mnemonic_of, same_side, unit_of};
+use c6x_asm_lines::{AsmRule, bytes_at, Head, Operand, Word};
+use c6x_asm_operands::{Made, Mnemonic, mnemonic_of, same_side, Unit, unit_of};
 use c6x_base::Side;
 use c6x_instr::Cond;
 
@@ -90,7 +90,7 @@ fn unit_named(text: &[u8], word: Option<Word>) -> Option<Unit>
 {
     match word {
         None => None,
-        Some(word) => unit_of(bytes_of(text, word)),
+        Some(word) => unit_of(bytes_at(text, word.at, word.len)),
     }
 }
 
@@ -139,5 +139,5 @@ fn with_mnemonic(
 pub fn instruction_of(text: &[u8], head: Head, operands: &[Operand]) -> Result<Made, AsmRule>
     ensures { result ≡ instruction_of text.now head operands.now }
 {
-    with_mnemonic(text, head, mnemonic_of(bytes_of(text, head.word)), operands)
+    with_mnemonic(text, head, mnemonic_of(bytes_at(text, head.word.at, head.word.len)), operands)
 }

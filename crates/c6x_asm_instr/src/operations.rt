@@ -2,11 +2,8 @@ ghost use Rattle.std.specs.Prelude.{◌≡◌, ◌<◌, ◌≤◌, length, IfOk}
 ghost use Rattle.c6x_asm_instr.specs.Instructions.{first_range, first_of, second_side, two_with, two_of, move_field, move_of};
 
 use crate::units::{has_form, is_cross, is_swapped, other_side};
-use c6x_asm_lines::{Operand, Plain, Value};
-use c6x_asm_operands::{
-    AsmRule, Field, Made, Range, Unit, both, constant_operand, field_operand, number_in,
-    register_on, register_operand,
-};
+use c6x_asm_lines::{AsmRule, both, Operand, Plain, Value};
+use c6x_asm_operands::{constant_operand, Field, field_operand, Made, number_in, Range, register_on, register_operand, Unit};
 use c6x_base::Side;
 use c6x_instr::{Arith, First, MoveKind, Op, UnitKind};
 use c6x_reloc::RelocKind;

@@ -5,7 +5,7 @@ ghost use Rattle.c6x_asm_limits.specs.Sums.{clipped, empty_summary, is_heavy, is
 use crate::placing::{both, part_stretch};
 use crate::stretch::Stretch;
 use crate::summary::Summary;
-use c6x_asm_directives::quoted;
+use c6x_asm_lines::bytes_at;
 use c6x_asm_object::Part;
 
 // The most bytes of a section.
@@ -42,7 +42,7 @@ fn part_tables(part: &Part) -> u64
 fn part_names(text: &[u8], part: &Part) -> u64
     ensures { result ≡ clipped (part_names text.now part.now) }
 {
-    let len = quoted(text, part.at, part.len).len() as u64;
+    let len = bytes_at(text, part.at, part.len).len() as u64;
     if part.entries.as_slice().len() >= 1 {
         (len + 1).saturating_add(len + 6)
     } else {

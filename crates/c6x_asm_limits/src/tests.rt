@@ -92,7 +92,7 @@ fn a_long_file(rt: HostRuntime) -> Result<(), Fail> {
 }
 
 #[test]
-#[tactic(auto, unfolding(c6x_asm_directives::specs::Directives::quoted))]
+#[tactic(auto, unfolding(c6x_asm_lines::specs::Bytes::bytes_at))]
 fn a_name(rt: HostRuntime) -> Result<(), Fail> {
     let alloc = rt.alloc();
     let parts = vec![in alloc; part(alloc, PartKind::Data, 10)?]?;

@@ -3,6 +3,8 @@
 
 mod address;
 mod addresses;
+mod bytes;
+mod combine;
 mod head;
 mod heads;
 mod lexeme;
@@ -17,6 +19,7 @@ mod parts;
 mod plain;
 mod register;
 mod rest;
+mod rule;
 mod sign;
 mod step;
 mod value;
@@ -24,6 +27,8 @@ mod word;
 mod words;
 
 pub use address::Address;
+pub use bytes::bytes_at;
+pub use combine::{both, lower, lowest};
 pub use head::Head;
 pub use lexeme::Lexeme;
 pub use line::{Line, Statement};
@@ -34,6 +39,7 @@ pub use offset::Offset;
 pub use operand::Operand;
 pub use plain::Plain;
 pub use register::Register;
+pub use rule::AsmRule;
 pub use sign::Sign;
 pub use step::Step;
 pub use value::Value;

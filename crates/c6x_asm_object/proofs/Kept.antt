@@ -3,7 +3,7 @@ use Rattle.std.proofs.Common.{◌≡◌, ℕ, ◌+◌, ◌∷◌, ◌++◌, [], 
 use Rattle.std.proofs.lemmas.List.{map-append}
 use Rattle.std.proofs.Math.Seq.{map-set_same}
 use Rattle.std.specs.Str.{bytes_eq}
-use Rattle.c6x_asm_directives.specs.Directives.{quoted}
+use Rattle.c6x_asm_lines.specs.Bytes.{bytes_at}
 use Rattle.c6x_asm_object.specs.declared.entry.Entry.{Entry}
 use Rattle.c6x_asm_object.specs.declared.part.Part.{Part}
 use Rattle.c6x_asm_object.specs.declared.slot.Slot.{Slot}
@@ -31,7 +31,7 @@ StandsAs p q = (p.at ≡ q.at) × (p.len ≡ q.len)
 
 names_changed : (text : List ℕ) (parts : List Part) (i : ℕ) (change : Part → Part) → StandsAs (change (part_of parts i)) (part_of parts i) → part_names text (changed parts i change) ≡ part_names text parts
 names_changed text parts i change stands =
-    map-set_same (part_name text) parts i (change (part_of parts i)) no_part (λ j. quoted text (stands.0 j) (stands.1 j))
+    map-set_same (part_name text) parts i (change (part_of parts i)) no_part (λ j. bytes_at text (stands.0 j) (stands.1 j))
 
 stands_with_zeros : (n : ℕ) (p : Part) → StandsAs (with_zeros n p) p
 unfolding with_zeros

@@ -3,3 +3,4 @@ pub mod Names
 pub mod Parts
 pub mod Symbols
 pub mod Named
+pub mod Sound

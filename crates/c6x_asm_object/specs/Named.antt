@@ -1,12 +1,12 @@
 -- The names that are kept beside the sections and symbols of a text are theirs.
 use Rattle.std.specs.Prelude.{◌≡◌, ℕ, List, map}
-use Rattle.c6x_asm_directives.specs.Directives.{quoted}
+use Rattle.c6x_asm_lines.specs.Bytes.{bytes_at}
 use Rattle.c6x_asm_object.specs.declared.part.Part.{Part}
 use Rattle.c6x_asm_object.specs.declared.symbols.Symbols.{Symbols}
 use Rattle.c6x_asm_object.specs.Symbols.{symbol_name, names_total}
 
 abbrev pub part_name : List ℕ → Part → List ℕ
-part_name text p = quoted text p.at p.len
+part_name text p = bytes_at text p.at p.len
 
 abbrev pub part_names : List ℕ → List Part → List (List ℕ)
 part_names text parts = map (part_name text) parts

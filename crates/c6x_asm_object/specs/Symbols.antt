@@ -2,11 +2,11 @@
 use Rattle.std.specs.Prelude.{ℕ, ◌+◌, false, List, [], ◌∷◌, ◌++◌, length, slice_index_or, Option, Some, None, position}
 use Rattle.std.specs.Str.{bytes_eq}
 use Rattle.c6x_asm_lines.specs.declared.word.Word.{Word}
-use Rattle.c6x_asm_directives.specs.Directives.{quoted}
+use Rattle.c6x_asm_lines.specs.Bytes.{bytes_at}
 use Rattle.c6x_asm_object.specs.declared.symbol.Symbol.{Symbol}
 
 abbrev pub symbol_name : List ℕ → Symbol → List ℕ
-symbol_name text s = quoted text s.at s.len
+symbol_name text s = bytes_at text s.at s.len
 
 unfoldable pub no_symbol : Symbol
 no_symbol = record { at = 0; len = 0; spot = None; global = false; weak = false; hidden = false }
@@ -28,7 +28,7 @@ or_added None symbols word = (symbols ++ fresh word ∷ [], length symbols)
 
 -- the names with this one, and its place
 unfoldable pub interned : List ℕ → List Symbol → Word → List Symbol × ℕ
-interned text symbols word = or_added (symbol_at text symbols (quoted text word.at word.len)) symbols word
+interned text symbols word = or_added (symbol_at text symbols (bytes_at text word.at word.len)) symbols word
 
 -- the bytes of the names with one more for each
 abbrev pub names_total : List ℕ → List Symbol → ℕ

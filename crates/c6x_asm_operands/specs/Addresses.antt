@@ -17,11 +17,11 @@ use Rattle.c6x_asm_lines.specs.declared.value.Value.TheVariants.{Plain as PlainV
 use Rattle.c6x_asm_operands.specs.declared.place.Place.{Place}
 use Rattle.c6x_asm_operands.specs.declared.place.Place.TheVariants.{Short, Long}
 use Rattle.c6x_asm_operands.specs.declared.range.Range.{Range}
-use Rattle.c6x_asm_operands.specs.declared.rule.AsmRule.{AsmRule}
-use Rattle.c6x_asm_operands.specs.declared.rule.AsmRule.TheVariants.{Operand as BadOperand}
+use Rattle.c6x_asm_lines.specs.declared.rule.AsmRule.{AsmRule}
+use Rattle.c6x_asm_lines.specs.declared.rule.AsmRule.TheVariants.{Operand as BadOperand}
 use Rattle.c6x_asm_operands.specs.Numbers.{number_in}
 use Rattle.c6x_asm_operands.specs.Operands.{register_on, value_field}
-use Rattle.c6x_asm_operands.specs.Rules.{both, ◌>>=◌}
+use Rattle.c6x_asm_lines.specs.Rules.{both, ◌>>=◌}
 
 -- a base register on the unit's side
 abbrev pub base_on : Side → Option Register → Result ℕ AsmRule

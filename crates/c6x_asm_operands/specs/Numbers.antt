@@ -1,8 +1,8 @@
 -- Which numbers an operand may be (SPRU732's fields; the ranges of directives are this project's own).
 use Rattle.std.specs.Prelude.{ℕ, ◌-◌, ◌%◌, nat_le, ◌==◌, Bool, ◌&&◌, if◌then◌else◌, Option, Some, None, Result, Ok, Err}
 use Rattle.c6x_asm_lines.specs.declared.number.Number.{Number}
-use Rattle.c6x_asm_operands.specs.declared.rule.AsmRule.{AsmRule}
-use Rattle.c6x_asm_operands.specs.declared.rule.AsmRule.TheVariants.{Range as OutOfRange}
+use Rattle.c6x_asm_lines.specs.declared.rule.AsmRule.{AsmRule}
+use Rattle.c6x_asm_lines.specs.declared.rule.AsmRule.TheVariants.{Range as OutOfRange}
 use Rattle.c6x_asm_operands.specs.declared.range.Range.{Range}
 
 abbrev pub is_within : Range → Bool → ℕ → Bool

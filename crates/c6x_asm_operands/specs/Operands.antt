@@ -14,17 +14,13 @@ use Rattle.c6x_asm_lines.specs.declared.value.Value.{Value}
 use Rattle.c6x_asm_lines.specs.declared.value.Value.TheVariants.{Plain as PlainValue, Kind as KindValue}
 use Rattle.c6x_asm_lines.specs.declared.operand.Operand.{Operand}
 use Rattle.c6x_asm_lines.specs.declared.operand.Operand.TheVariants.{Value as ValueOperand}
-use Rattle.c6x_asm_operands.specs.declared.rule.AsmRule.{AsmRule}
-use Rattle.c6x_asm_operands.specs.declared.rule.AsmRule.TheVariants.{Syntax, UnknownWord, Operand as BadOperand}
+use Rattle.c6x_asm_lines.specs.declared.rule.AsmRule.{AsmRule}
+use Rattle.c6x_asm_lines.specs.declared.rule.AsmRule.TheVariants.{Syntax, UnknownWord, Operand as BadOperand}
 use Rattle.c6x_asm_operands.specs.declared.range.Range.{Range}
 use Rattle.c6x_asm_operands.specs.declared.made.Field.{Field}
-use Rattle.c6x_asm_operands.specs.Rules.{◌>>=◌}
+use Rattle.c6x_asm_lines.specs.Rules.{◌>>=◌}
 use Rattle.c6x_asm_operands.specs.Names.{kind_of}
 use Rattle.c6x_asm_operands.specs.Numbers.{number_in}
-
--- the bytes of a word of the text
-unfoldable pub bytes_of : List ℕ → Word → List ℕ
-bytes_of text word = if nat_le (word.at + word.len) (length text) then slice_range text word.at (word.at + word.len) else []
 
 abbrev pub same_side : Side → Side → Bool
 same_side A A = true
@@ -80,7 +76,7 @@ unfoldable pub value_field : List ℕ → RelocKind → Range → Value → Resu
 value_field text default range (PlainValue (PlainNumber n)) = number_in range n >>= λ bits. Ok (record { bits = bits; relocation = None })
 value_field text default range (PlainValue (PlainSymbol name addend)) = symbol_field default name addend
 value_field text default range (PlainValue (PlainRegister register)) = Err BadOperand
-value_field text default range (KindValue kind inner) = named_field default (kind_of (bytes_of text kind)) inner
+value_field text default range (KindValue kind inner) = named_field default (kind_of (bytes_at text kind.at kind.len)) inner
 
 unfoldable pub field_operand : List ℕ → RelocKind → Range → Operand → Result Field AsmRule
 field_operand text default range (ValueOperand v) = value_field text default range v

@@ -1,13 +1,11 @@
 ghost use Rattle.std.specs.Prelude.{◌≡◌, ◌*◌, ◌/◌, ◌≤◌};
 ghost use Rattle.c6x_asm_operands.specs.Addresses.{base_on, bracketed, missing_offset, long_base_on, long_kind, long_range, mode_number, placed, place_of};
 
-use crate::combine::both;
 use crate::numbers::number_in;
 use crate::operands::{register_on, value_field};
 use crate::place::Place;
 use crate::range::Range;
-use crate::rule::AsmRule;
-use c6x_asm_lines::{Address, Mode, Offset, Operand, Plain, Register, Value};
+use c6x_asm_lines::{Address, AsmRule, both, Mode, Offset, Operand, Plain, Register, Value};
 use c6x_base::Side;
 use c6x_reloc::RelocKind;
 

@@ -2,7 +2,6 @@
 #![tactic(auto)]
 
 mod addresses;
-mod combine;
 mod made;
 mod mnemonic;
 mod names;
@@ -12,22 +11,18 @@ mod path;
 mod place;
 mod range;
 mod relocation;
-mod rule;
 mod unit;
 
 pub use addresses::place_of;
-pub use combine::{both, lower};
 pub use made::{Field, Made};
 pub use mnemonic::Mnemonic;
 pub use names::{kind_of, mnemonic_name, mnemonic_of, unit_of};
 pub use numbers::number_in;
 pub use operands::{
-    bytes_of, constant_operand, field_operand, register_on, register_operand, same_side,
-    value_field,
+    constant_operand, field_operand, register_on, register_operand, same_side, value_field,
 };
 pub use path::Path;
 pub use place::Place;
 pub use range::Range;
 pub use relocation::Relocation;
-pub use rule::AsmRule;
 pub use unit::Unit;

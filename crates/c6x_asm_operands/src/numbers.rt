@@ -2,8 +2,7 @@ ghost use Rattle.std.specs.Prelude.{◌≡◌, ◌^◌, ◌<◌, ◌≤◌, IfOk
 ghost use Rattle.c6x_asm_operands.specs.Numbers.{is_within, number_bits, number_in};
 
 use crate::range::Range;
-use crate::rule::AsmRule;
-use c6x_asm_lines::Number;
+use c6x_asm_lines::{AsmRule, Number};
 
 fn is_within(range: Range, negative: bool, size: u32) -> bool
     ensures { result ≡ is_within range negative size }

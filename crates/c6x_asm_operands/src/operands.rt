@@ -1,14 +1,14 @@
 ghost use Rattle.std.specs.Prelude.{◌≡◌, ◌^◌, ◌<◌, ◌≤◌, IfOk};
 ghost use Rattle.c6x_reloc.specs.Table.{row_of};
-ghost use Rattle.c6x_asm_operands.specs.Operands.{bytes_of, same_side, register_on, register_operand, constant_operand, addend_of, symbol_field, same_field, is_index, index_field, inner_field, named_field, value_field, field_operand};
+ghost use Rattle.c6x_asm_operands.specs.Operands.{same_side, register_on, register_operand, constant_operand, addend_of, symbol_field, same_field, is_index, index_field, inner_field, named_field, value_field, field_operand};
+ghost use Rattle.c6x_asm_lines.specs.Bytes.{bytes_at};
 
 use crate::made::Field;
 use crate::names::kind_of;
 use crate::numbers::number_in;
 use crate::range::Range;
 use crate::relocation::Relocation;
-use crate::rule::AsmRule;
-use c6x_asm_lines::{Number, Operand, Plain, Register, Value, Word};
+use c6x_asm_lines::{AsmRule, Number, Operand, Plain, Register, Value, Word};
 use c6x_base::Side;
 use c6x_reloc::{RelocKind, width};
 
@@ -19,20 +19,6 @@ const ADDENDS: Range = Range {
     step: 1,
     modulus: 4_294_967_296,
 };
-
-/// The bytes of a word of the text.
-#[tactic(auto, unfolding(crate::specs::Operands::bytes_of))]
-pub fn bytes_of<'t>(text: &'t [u8], word: Word) -> &'t [u8]
-    ensures { result.now ≡ bytes_of text.now word }
-{
-    let at = word.at as usize;
-    let len = word.len as usize;
-    if at + len <= text.len() {
-        &text[at..at + len]
-    } else {
-        &[]
-    }
-}
 
 pub fn same_side(a: Side, b: Side) -> bool
     ensures { result ≡ same_side a b }
@@ -222,7 +208,7 @@ pub fn value_field(
         }
         Value::Plain(Plain::Symbol { name, addend }) => symbol_field(default, name, addend),
         Value::Plain(Plain::Register(_)) => Err(AsmRule::Operand),
-        Value::Kind { kind, inner } => named_field(default, kind_of(bytes_of(text, kind)), inner),
+        Value::Kind { kind, inner } => named_field(default, kind_of(bytes_at(text, kind.at, kind.len)), inner),
     }
 }
 

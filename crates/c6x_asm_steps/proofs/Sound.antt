@@ -5,7 +5,7 @@ use Rattle.std.proofs.Math.Seq.{map-set_same}
 use Rattle.std.specs.Str.{bytes_eq}
 use Rattle.c6x_asm_directives.specs.declared.mark.Mark.{Mark}
 use Rattle.c6x_asm_directives.specs.declared.mark.Mark.TheVariants.{Global, Weak, Hidden}
-use Rattle.c6x_asm_directives.specs.Directives.{quoted}
+use Rattle.c6x_asm_lines.specs.Bytes.{bytes_at}
 use Rattle.c6x_asm_object.specs.declared.part.Part.{Part}
 use Rattle.c6x_asm_object.specs.declared.spot.Spot.{Spot}
 use Rattle.c6x_asm_object.specs.declared.symbol.Symbol.{Symbol}
@@ -28,7 +28,7 @@ StandsAs s t = (s.at ≡ t.at) × (s.len ≡ t.len)
 
 names_changed : (text : List ℕ) (symbols : List Symbol) (i : ℕ) (change : Symbol → Symbol) → StandsAs (change (symbol_of symbols i)) (symbol_of symbols i) → map (symbol_name text) (symbol_changed symbols i change) ≡ map (symbol_name text) symbols
 names_changed text symbols i change stands =
-    map-set_same (symbol_name text) symbols i (change (symbol_of symbols i)) no_symbol (λ j. quoted text (stands.0 j) (stands.1 j))
+    map-set_same (symbol_name text) symbols i (change (symbol_of symbols i)) no_symbol (λ j. bytes_at text (stands.0 j) (stands.1 j))
 
 abbrev lengths : List (List ℕ) → ℕ
 lengths [] = 0

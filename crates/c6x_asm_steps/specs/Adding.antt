@@ -1,9 +1,9 @@
 -- What a directive adds.
 use Rattle.std.specs.Prelude.{ℕ, ◌+◌, nat_le, Bool, if◌then◌else◌, List, [], ◌∷◌, Option, Some, None, Result, Ok, Err}
 use Rattle.c6x_asm_operands.specs.declared.made.Field.{Field}
-use Rattle.c6x_asm_operands.specs.declared.rule.AsmRule.{AsmRule}
-use Rattle.c6x_asm_operands.specs.declared.rule.AsmRule.TheVariants.{NoSection, Large}
-use Rattle.c6x_asm_operands.specs.Rules.{◌>>=◌}
+use Rattle.c6x_asm_lines.specs.declared.rule.AsmRule.{AsmRule}
+use Rattle.c6x_asm_lines.specs.declared.rule.AsmRule.TheVariants.{NoSection, Large}
+use Rattle.c6x_asm_lines.specs.Rules.{◌>>=◌}
 use Rattle.c6x_asm_directives.specs.declared.directive.Directive.{Directive}
 use Rattle.c6x_asm_directives.specs.declared.directive.Directive.TheVariants.{Section, Numbers, Space, Align, Mark as Marks, Common, Set}
 use Rattle.c6x_asm_lines.specs.declared.word.Word.{Word}

@@ -6,11 +6,10 @@ use Rattle.c6x_encoding.specs.Encoded.{encoded}
 use Rattle.c6x_asm_lines.specs.declared.head.Head.{Head}
 use Rattle.c6x_asm_lines.specs.declared.operand.Operand.{Operand}
 use Rattle.c6x_asm_operands.specs.declared.made.Made.{Made}
-use Rattle.c6x_asm_operands.specs.declared.rule.AsmRule.{AsmRule}
-use Rattle.c6x_asm_operands.specs.declared.rule.AsmRule.TheVariants.{Syntax, Operand as BadOperand, NoSection, Large}
-use Rattle.c6x_asm_operands.specs.Rules.{lower, ◌>>=◌}
+use Rattle.c6x_asm_lines.specs.declared.rule.AsmRule.{AsmRule}
+use Rattle.c6x_asm_lines.specs.declared.rule.AsmRule.TheVariants.{Syntax, Operand as BadOperand, NoSection, Large}
+use Rattle.c6x_asm_lines.specs.Rules.{lower, ◌>>=◌, lowest}
 use Rattle.c6x_asm_instr.specs.Instructions.{instruction_of}
-use Rattle.c6x_asm_directives.specs.Kinds.{lowest}
 use Rattle.c6x_asm_object.specs.declared.part.Part.{Part}
 use Rattle.c6x_asm_object.specs.declared.slot.Slot.{Slot}
 use Rattle.c6x_asm_object.specs.Parts.{is_zero, part_of, changed, with_instruction}

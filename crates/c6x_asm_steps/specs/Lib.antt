@@ -2,3 +2,5 @@ pub mod States
 pub mod Adding
 pub mod Instructing
 pub mod Stepping
+pub mod Keeping
+pub mod Touching

@@ -2,13 +2,13 @@
 use Rattle.std.specs.Prelude.{◌≡◌, ℕ, ◌+◌, ◌<◌, true, List, [], ◌∷◌, ◌++◌, length, slice_set, Option, Some, None, Result, Ok, Err, IfSome, vec_len, position}
 use Rattle.std.specs.Str.{bytes_eq}
 use Rattle.c6x_asm_lines.specs.declared.word.Word.{Word}
-use Rattle.c6x_asm_operands.specs.declared.rule.AsmRule.{AsmRule}
-use Rattle.c6x_asm_operands.specs.declared.rule.AsmRule.TheVariants.{DuplicateLabel, NoSection}
+use Rattle.c6x_asm_lines.specs.declared.rule.AsmRule.{AsmRule}
+use Rattle.c6x_asm_lines.specs.declared.rule.AsmRule.TheVariants.{DuplicateLabel, NoSection}
 use Rattle.c6x_asm_operands.specs.declared.relocation.Relocation.{Relocation}
 use Rattle.c6x_asm_directives.specs.declared.mark.Mark.{Mark}
 use Rattle.c6x_asm_directives.specs.declared.mark.Mark.TheVariants.{Global, Weak, Hidden}
-use Rattle.c6x_asm_directives.specs.Directives.{quoted}
-use Rattle.c6x_asm_directives.specs.Kinds.{lowest}
+use Rattle.c6x_asm_lines.specs.Bytes.{bytes_at}
+use Rattle.c6x_asm_lines.specs.Rules.{lowest}
 use Rattle.c6x_asm_object.specs.declared.entry.Entry.{Entry}
 use Rattle.c6x_asm_object.specs.declared.object.Object.{Object}
 use Rattle.c6x_asm_object.specs.declared.part.Part.{Part}
@@ -59,7 +59,7 @@ fault_of_spot (Some spot) = Some DuplicateLabel
 
 -- the name has a place already
 unfoldable pub placed_fault : List ℕ → List Symbol → Word → Option AsmRule
-placed_fault text symbols word = fault_of_spot (spot_of symbols (symbol_at text symbols (quoted text word.at word.len)))
+placed_fault text symbols word = fault_of_spot (spot_of symbols (symbol_at text symbols (bytes_at text word.at word.len)))
 
 abbrev pub section_fault : Option ℕ → Option AsmRule
 section_fault None = Some NoSection
@@ -78,15 +78,15 @@ labelled text s word = record s { symbols = name_changed text s.symbols word (pl
 
 -- the number of the section with this name
 unfoldable pub part_at : List ℕ → List Part → List ℕ → Option ℕ
-part_at text parts name = position (λ p. bytes_eq (quoted text p.at p.len) name) parts
+part_at text parts name = position (λ p. bytes_eq (bytes_at text p.at p.len) name) parts
 
 abbrev pub entered_or_new : List ℕ → ℕ → ℕ → State → Option ℕ → State
 entered_or_new text at len s (Some i) = record s { now = Some i }
-entered_or_new text at len s None = record s { parts = s.parts ++ empty_part at len (kind_named (quoted text at len)) ∷ []; now = Some (length s.parts) }
+entered_or_new text at len s None = record s { parts = s.parts ++ empty_part at len (kind_named (bytes_at text at len)) ∷ []; now = Some (length s.parts) }
 
 -- the section with this name, which is added if it is new
 unfoldable pub entered : List ℕ → ℕ → ℕ → State → State
-entered text at len s = entered_or_new text at len s (part_at text s.parts (quoted text at len))
+entered text at len s = entered_or_new text at len s (part_at text s.parts (bytes_at text at len))
 
 abbrev pub entry_with : Relocation → ℕ → Option ℕ → Entry
 entry_with r offset symbol = record { offset = offset; kind = r.kind; symbol = symbol; addend = r.addend }

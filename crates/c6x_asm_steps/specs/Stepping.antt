@@ -5,10 +5,10 @@ use Rattle.c6x_asm_lines.specs.declared.line.Statement.{Statement}
 use Rattle.c6x_asm_lines.specs.declared.operand.Operand.{Operand}
 use Rattle.c6x_asm_lines.specs.declared.word.Word.{Word}
 use Rattle.c6x_asm_lines.specs.Grammar.{is_dotted}
-use Rattle.c6x_asm_operands.specs.declared.rule.AsmRule.{AsmRule}
-use Rattle.c6x_asm_operands.specs.declared.rule.AsmRule.TheVariants.{UnknownWord, Operand as BadOperand}
-use Rattle.c6x_asm_operands.specs.Operands.{bytes_of}
-use Rattle.c6x_asm_operands.specs.Rules.{◌>>=◌}
+use Rattle.c6x_asm_lines.specs.declared.rule.AsmRule.{AsmRule}
+use Rattle.c6x_asm_lines.specs.declared.rule.AsmRule.TheVariants.{UnknownWord, Operand as BadOperand}
+use Rattle.c6x_asm_lines.specs.Bytes.{bytes_at}
+use Rattle.c6x_asm_lines.specs.Rules.{◌>>=◌}
 use Rattle.c6x_asm_directives.specs.declared.keyword.Keyword.{Keyword}
 use Rattle.c6x_asm_directives.specs.declared.keyword.Keyword.TheVariants.{Word as WordKey, Half, Byte}
 use Rattle.c6x_asm_directives.specs.Directives.{directive_by}
@@ -42,7 +42,7 @@ with_keyword text (Some keyword) operands s =
 abbrev pub with_statement : List ℕ → ℕ → Statement → State → Result State AsmRule
 with_statement text line statement s =
     if is_dotted statement.head.word.class
-    then with_keyword text (keyword_of (bytes_of text statement.head.word)) statement.operands s
+    then with_keyword text (keyword_of (bytes_at text statement.head.word.at statement.head.word.len)) statement.operands s
     else instructed text line statement.head statement.operands s
 
 unfoldable pub stated : List ℕ → ℕ → Option Statement → State → Result State AsmRule

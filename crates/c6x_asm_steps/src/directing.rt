@@ -8,9 +8,9 @@ use crate::entering::enter;
 use crate::marking::{mark, place, placed_fault};
 use crate::relocating::relocate;
 use c6x_asm_directives::Directive;
-use c6x_asm_lines::Word;
+use c6x_asm_lines::{AsmRule, Word};
 use c6x_asm_object::{Object, Spot, add_align, add_number, add_zeros, padding};
-use c6x_asm_operands::{AsmRule, Field};
+use c6x_asm_operands::Field;
 use std::alloc::{AllocError, Global};
 
 /// Whether a section of this size may grow by so many bytes.

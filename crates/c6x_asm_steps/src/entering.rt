@@ -1,20 +1,20 @@
 ghost use Rattle.std.specs.Prelude.{◌≡◌, ◌++◌, ◌∷◌, [], ◌<◌, None, IfSome, OnOk, vec_len};
-ghost use Rattle.c6x_asm_directives.specs.Directives.{quoted};
+ghost use Rattle.c6x_asm_lines.specs.Bytes.{bytes_at};
 ghost use Rattle.c6x_asm_object.specs.Kinds.{kind_named};
 ghost use Rattle.c6x_asm_object.specs.Parts.{empty_part};
 ghost use Rattle.c6x_asm_steps.specs.States.{State, state_of, IsSound, part_at, entered};
 
-use c6x_asm_directives::quoted;
+use c6x_asm_lines::bytes_at;
 use c6x_asm_object::{Object, empty_part, kind_named};
 use std::alloc::{AllocError, Global};
 
 #[tactic(auto, using(crate::proofs::Sound::name_of_part))]
 fn part_at(text: &[u8], object: &Object, at: u32, len: u32) -> Option<usize>
     requires sound { IsSound text.now object.now }
-    ensures is { result ≡ part_at text.now object.now.parts.items (quoted text.now at len) }
+    ensures is { result ≡ part_at text.now object.now.parts.items (bytes_at text.now at len) }
     ensures there { IfSome result (λ i. i < vec_len object.now.parts) }
 {
-    object.part_names.find(quoted(text, at, len))
+    object.part_names.find(bytes_at(text, at, len))
 }
 
 // Adds a section whose name is not there.
@@ -27,12 +27,12 @@ fn add_part<'a>(
     len: u32,
 ) -> Result<(), AllocError>
     requires sound { IsSound text.now object.old }
-    requires absent { part_at text.now object.old.parts.items (quoted text.now at len) ≡ None }
-    ensures parts { OnOk result (object.new.parts.items ≡ object.old.parts.items ++ empty_part at len (kind_named (quoted text.now at len)) ∷ []) }
+    requires absent { part_at text.now object.old.parts.items (bytes_at text.now at len) ≡ None }
+    ensures parts { OnOk result (object.new.parts.items ≡ object.old.parts.items ++ empty_part at len (kind_named (bytes_at text.now at len)) ∷ []) }
     ensures symbols { object.new.symbols ≡ object.old.symbols }
     ensures sound { OnOk result (IsSound text.now object.new) }
 {
-    let name = quoted(text, at, len);
+    let name = bytes_at(text, at, len);
     object
         .parts
         .push(empty_part(alloc, at, len, kind_named(name)))

@@ -6,11 +6,10 @@ ghost use Rattle.c6x_asm_steps.specs.Instructing.{ends_at, is_behind, chain_faul
 
 use crate::directing::has_room;
 use crate::relocating::relocate;
-use c6x_asm_directives::lowest;
+use c6x_asm_lines::{AsmRule, Head, lower, lowest, Operand};
 use c6x_asm_instr::instruction_of;
-use c6x_asm_lines::{Head, Operand};
 use c6x_asm_object::{Object, Part, PartKind, Slot, add_instruction};
-use c6x_asm_operands::{AsmRule, Made, lower};
+use c6x_asm_operands::Made;
 use c6x_encoding::{encode, is_valid};
 use c6x_instr::{Cond, Instr, Op};
 use std::alloc::AllocError;

@@ -2,10 +2,8 @@ ghost use Rattle.std.specs.Prelude.{◌≡◌, ◌+◌, ◌<◌, IfSome, OnOk, l
 ghost use Rattle.c6x_asm_steps.specs.States.{State, state_of, IsSound, section_fault, label_spot, label_fault, labelled};
 
 use crate::marking::{place, placed_fault};
-use c6x_asm_directives::lowest;
-use c6x_asm_lines::Word;
+use c6x_asm_lines::{AsmRule, lowest, Word};
 use c6x_asm_object::{Object, Part, Spot};
-use c6x_asm_operands::AsmRule;
 use std::alloc::AllocError;
 
 fn section_fault(now: Option<usize>) -> Option<AsmRule>

@@ -4,9 +4,8 @@ ghost use Rattle.c6x_asm_object.specs.Symbols.{symbol_of};
 ghost use Rattle.c6x_asm_steps.specs.States.{placed_at, marked_by, symbol_changed, name_changed, spot_of, fault_of_spot, placed_fault};
 
 use c6x_asm_directives::Mark;
-use c6x_asm_lines::Word;
+use c6x_asm_lines::{AsmRule, Word};
 use c6x_asm_object::{Spot, Symbol, Symbols, intern, symbol_at};
-use c6x_asm_operands::AsmRule;
 use std::alloc::AllocError;
 
 #[tactic(auto, using(std::proofs::lemmas::List::get_or_default))]

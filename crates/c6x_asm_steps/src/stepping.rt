@@ -6,9 +6,8 @@ use crate::directing::apply;
 use crate::instructing::{instruct, is_zero};
 use crate::labelling::{label_fault, set_label};
 use c6x_asm_directives::{Keyword, directive_of, keyword_of, kinds_fault};
-use c6x_asm_lines::{Line, Operand, Statement, Word, WordClass};
+use c6x_asm_lines::{AsmRule, bytes_at, Line, lower, Operand, Statement, Word, WordClass};
 use c6x_asm_object::{Object, Part};
-use c6x_asm_operands::{AsmRule, bytes_of, lower};
 use std::alloc::{AllocError, Global};
 
 fn is_numbers(keyword: Keyword) -> bool
@@ -85,7 +84,7 @@ fn state<'a>(
         WordClass::Dotted => direct(
             alloc,
             text,
-            keyword_of(bytes_of(text, head.word)),
+            keyword_of(bytes_at(text, head.word.at, head.word.len)),
             operands,
             object,
         ),

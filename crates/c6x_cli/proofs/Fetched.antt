@@ -1,7 +1,6 @@
 use Rattle.std.proofs.Common.{◌≡◌, ℕ, List, ap}
-use Rattle.std.specs.Prelude.{None}
+use Rattle.std.specs.Prelude.{None, take, ◌+◌}
 use Rattle.std.specs.Option.{option_map}
-use Rattle.std.specs.Prelude.{take, ◌+◌}
 use Rattle.c6x_spec.specs.Files.{Files, file_at, front_at}
 
 -- nothing is fetched of a name that the files lack

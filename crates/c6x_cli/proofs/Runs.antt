@@ -1,6 +1,5 @@
 use Rattle.std.proofs.Common.{◌≡◌, ℕ, ◌+◌, ◌-◌, inl, inr, Bool, true, false, List, length, get_or, refl, sym, ◌∙◌, ap, subst, arith}
-use Rattle.std.specs.Prelude.{Option}
-use Rattle.std.specs.Prelude.{Some, if◌then◌else◌, slice_index}
+use Rattle.std.specs.Prelude.{Option, Some, if◌then◌else◌, slice_index}
 use Rattle.std.proofs.lemmas.List.FromFn.{fill_by_all}
 use Rattle.c6x_spec.specs.Memory.{Memory, IsOnMemory}
 use Rattle.c6x_spec.specs.Sinks.{Takes, TakesFront}

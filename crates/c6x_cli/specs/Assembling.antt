@@ -2,7 +2,7 @@ use Rattle.std.specs.Prelude.{ℕ, false, List, length, nat_le, Result, Ok, Err,
 use Rattle.c6x_spec.specs.Files.{Files}
 use Rattle.c6x_spec.specs.Results.{◌>>=◌}
 use Rattle.c6x_asm.specs.Objects.{assembled}
-use Rattle.c6x_asm_text.specs.declared.broken.Broken.{Broken}
+use Rattle.c6x_asm.specs.declared.broken.Broken.{Broken}
 use Rattle.c6x_elf.specs.Writing.{written}
 use Rattle.c6x_elf_headers.specs.declared.elf_rule.ElfRule.TheVariants.{Large}
 use Rattle.c6x_cli.specs.declared.cause.Cause.{Cause}

@@ -1,7 +1,6 @@
 -- What the longest token is, by the class of its first byte.
 use Rattle.std.proofs.Common.{◌≡◌, ℕ, suc, zero, ◌+◌, ◌<◌, ◌≤◌, Bool, true, false, cond, ◌⊎◌, inl, inr, ◌≢◌, ◌&&◌, eqb, List, [], ◌∷◌, length, take, get_or, Option, Some, None, refl, sym, ◌∙◌, ap, subst, arith, ⊎_elim, eq-eqb, ltb}
-use Rattle.std.proofs.lemmas.Bool.{eqb-true, ne_eqb, lt-ltb, and_left, and_right}
-use Rattle.std.proofs.lemmas.Bool.{cases_eq, cases_lt, false≢true}
+use Rattle.std.proofs.lemmas.Bool.{eqb-true, ne_eqb, lt-ltb, and_left, and_right, cases_eq, cases_lt, false≢true}
 use Rattle.std.proofs.lemmas.List.{length-take-le, get_or-take, get_or_past}
 use Rattle.std.proofs.lemmas.List.Sums.{prefix_len-le-length, prefix_len_stops, prefix_len_passes, prefix_len_is}
 use Rattle.std.proofs.lemmas.List.Folds.{list_all_at}

@@ -1,7 +1,6 @@
 use Rattle.std.specs.Prelude.{◌≤◌}
 use Rattle.c6x_spec.specs.Sinks.{Takes}
-use Rattle.c6x_cli.specs.Report.{lines_below}
-use Rattle.c6x_cli.specs.Report.{slot_line_of}
+use Rattle.c6x_cli.specs.Report.{lines_below, slot_line_of}
 use Rattle.c6x_cli.proofs.carry.put_slots.Given as goal
 
 abbrev pub invariant-loop-index : goal.invariant-loop-index

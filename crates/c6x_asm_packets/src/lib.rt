@@ -1,7 +1,0 @@
-//! The execute packets that the instructions of a section make.
-#![tactic(auto)]
-
-mod checking;
-mod closing;
-
-pub use checking::first_bad;

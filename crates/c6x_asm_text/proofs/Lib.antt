@@ -1,4 +1,0 @@
-pub mod Inside
-pub mod Kept
-pub mod Passes
-pub mod Followed

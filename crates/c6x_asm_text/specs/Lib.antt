@@ -1,4 +1,0 @@
-pub mod Lines
-pub mod Running
-pub mod Kept
-pub mod Reading
