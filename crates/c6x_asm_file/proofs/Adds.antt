@@ -6,7 +6,8 @@ use Rattle.c6x_asm_object.specs.declared.part.Part.{Part}
 use Rattle.c6x_asm_object.specs.declared.symbol.Symbol.{Symbol}
 use Rattle.c6x_asm_form.specs.Symbols.{symbol_numbers}
 use Rattle.c6x_asm_form.specs.Filing.{Named, names_of, sections_from, sections_of, named_part, named_relas, named_symtab, named_strtab, named_shstrtab, named_sections, has_entries, symtab_of}
-use Rattle.c6x_asm_file.specs.Adding.{Built, built, first_built, named, added, with_names}
+use Rattle.c6x_asm_file.specs.Built.{Built, built}
+use Rattle.c6x_asm_file.specs.Adding.{first_built, named, added, with_names}
 
 pub names_append : (a b : List Named) → names_of (a ++ b) ≡ names_of a ++ names_of b
 names_append [] b = refl

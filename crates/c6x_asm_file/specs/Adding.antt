@@ -1,16 +1,9 @@
 -- The sections of a file and their names, as they grow.
 use Rattle.std.specs.Prelude.{ℕ, ◌%◌, List, [], ◌∷◌, ◌++◌, length, codes}
 use Rattle.c6x_elf.specs.declared.section.Section.{Section}
+use Rattle.c6x_asm_file.specs.Built.{Built, built}
 use Rattle.c6x_asm_form.specs.Headers.{null_section, table_section}
 use Rattle.c6x_asm_form.specs.Filing.{Named, names_of, sections_from}
-
--- the sections so far and the bytes of their names
-pub record Built : Type 0 where
-  pub sections : List Section
-  pub names : List ℕ
-
-abbrev pub built : List Section → List ℕ → Built
-built sections names = record { sections = sections; names = names }
 
 -- the null section
 unfoldable pub first_built : Built

@@ -1,36 +1,13 @@
 ghost use Rattle.std.specs.Prelude.{◌≡◌, ◌≤◌, [], ◌∷◌, count_by, length, map, OnOk};
 ghost use Rattle.c6x_asm_form.specs.Filing.{has_entries, named_part, named_relas};
-ghost use Rattle.c6x_asm_file.specs.Adding.{built, named, added};
+ghost use Rattle.c6x_asm_file.specs.Adding.{added};
 
 use crate::headers::{TableKind, part_section, table_section};
 use crate::relocating::relocation_table;
+use crate::section_table::SectionTable;
 use c6x_asm_lines::bytes_at;
-use c6x_asm_object::{Items, Part};
-use c6x_elf::Section;
+use c6x_asm_object::Part;
 use std::alloc::{AllocError, Global};
-
-/// One more section, whose name goes behind the others.
-#[tactic(auto, using(crate::proofs::Adds::added_one))]
-pub fn add(
-    front: &[u8],
-    name: &[u8],
-    section: Section,
-    sections: &mut Vec<Section>,
-    names: &mut Items<u8>,
-) -> Result<(), AllocError>
-    ensures { OnOk result (built sections.new.items names.new ≡ added (named front.now name.now section ∷ []) (built sections.old.items names.old)) }
-{
-    let at = (names.as_slice().len() % 4_294_967_296) as u32;
-    sections
-        .push(Section {
-            name: at,
-            ..section
-        })
-        .map_err(AllocError::from)?;
-    names.extend(front)?;
-    names.extend(name)?;
-    names.push(0)
-}
 
 /// The named sections.
 #[tactic(auto, using(crate::proofs::Adds::parts_at, crate::proofs::Adds::parts_end))]
@@ -38,20 +15,13 @@ pub fn add_parts(
     alloc: Global,
     text: &[u8],
     parts: &[Part],
-    sections: &mut Vec<Section>,
-    names: &mut Items<u8>,
+    table: &mut SectionTable,
 ) -> Result<(), AllocError>
-    ensures { OnOk result (built sections.new.items names.new ≡ added (map (named_part text.now) parts.now) (built sections.old.items names.old)) }
+    ensures { OnOk result (table.new ≡ added (map (named_part text.now) parts.now) table.old) }
 {
     for part in parts {
         let section = part_section(alloc, part)?;
-        add(
-            &[],
-            bytes_at(text, part.at, part.len),
-            section,
-            sections,
-            names,
-        )?;
+        table.add(&[], bytes_at(text, part.at, part.len), section)?;
     }
     Ok(())
 }
@@ -72,30 +42,23 @@ fn add_rela(
     symtab: usize,
     number: usize,
     part: &Part,
-    sections: &mut Vec<Section>,
-    names: &mut Items<u8>,
+    table: &mut SectionTable,
 ) -> Result<(), AllocError>
-    ensures { OnOk result (built sections.new.items names.new ≡ added (named_relas text.now numbers.now symtab number (part.now ∷ [])) (built sections.old.items names.old)) }
+    ensures { OnOk result (table.new ≡ added (named_relas text.now numbers.now symtab number (part.now ∷ [])) table.old) }
 {
     if !has_entries(part) {
         return Ok(());
     }
     let bytes = relocation_table(alloc, numbers, part.entries.as_slice())?;
-    let table = TableKind {
+    let kind = TableKind {
         kind: 4,
         link: symtab,
         info: number,
         align: 4,
         entsize: 12,
     };
-    let section = table_section(alloc, table, bytes.as_slice())?;
-    add(
-        b".rela",
-        bytes_at(text, part.at, part.len),
-        section,
-        sections,
-        names,
-    )
+    let section = table_section(alloc, kind, bytes.as_slice())?;
+    table.add(b".rela", bytes_at(text, part.at, part.len), section)
 }
 
 /// The relocation tables of the named sections.
@@ -106,14 +69,13 @@ pub fn add_relas(
     numbers: &[usize],
     symtab: usize,
     parts: &[Part],
-    sections: &mut Vec<Section>,
-    names: &mut Items<u8>,
+    table: &mut SectionTable,
 ) -> Result<(), AllocError>
-    ensures { OnOk result (built sections.new.items names.new ≡ added (named_relas text.now numbers.now symtab 1 parts.now) (built sections.old.items names.old)) }
+    ensures { OnOk result (table.new ≡ added (named_relas text.now numbers.now symtab 1 parts.now) table.old) }
 {
     let mut number = 1;
     for part in parts {
-        add_rela(alloc, text, numbers, symtab, number, part, sections, names)?;
+        add_rela(alloc, text, numbers, symtab, number, part, table)?;
         number += 1;
     }
     Ok(())

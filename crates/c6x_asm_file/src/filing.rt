@@ -1,17 +1,17 @@
-ghost use Rattle.std.specs.Prelude.{◌≡◌, ◌+◌, ◌^◌, ◌%◌, ◌<◌, ◌≤◌, [], ◌∷◌, count_by, length, IfOk, OnOk};
-ghost use Rattle.c6x_asm_form.specs.Bindings.{is_local};
+ghost use Rattle.std.specs.Prelude.{◌≡◌, ◌+◌, ◌^◌, ◌%◌, ◌<◌, ◌≤◌, [], ◌∷◌, length, IfOk, OnOk};
 ghost use Rattle.c6x_asm_form.specs.Filing.{symtab_of, named_sections, named_strtab, named_symtab, file_of};
 ghost use Rattle.c6x_asm_object.specs.Symbols.{names_total};
-ghost use Rattle.c6x_asm_file.specs.Adding.{built, first_built, added, with_names};
+ghost use Rattle.c6x_asm_file.specs.Adding.{added};
 
-use crate::adding::{add, add_parts, add_relas, count_relas};
+use crate::adding::{add_parts, add_relas, count_relas};
 use crate::entries::symbol_table;
-use crate::headers::{TableKind, null_section, table_section};
+use crate::headers::{STRINGS, TableKind, table_section};
 use crate::numbering::{count_local, symbol_numbers};
+use crate::section_table::SectionTable;
 use crate::strings::name_table;
-use c6x_asm_object::{Items, Part, Symbol};
+use c6x_asm_object::{Part, Symbol};
 use c6x_base::Row;
-use c6x_elf::{File, Section};
+use c6x_elf::File;
 use std::alloc::{AllocError, Global};
 
 fn symtab_of(parts: &[Part]) -> usize
@@ -37,33 +37,23 @@ fn add_symtab(
     text: &[u8],
     parts: &[Part],
     symbols: &[Symbol],
-    sections: &mut Vec<Section>,
-    names: &mut Items<u8>,
+    table: &mut SectionTable,
 ) -> Result<(), AllocError>
     requires few { length parts.now < 2 ^ 31 }
     requires names { 1 + names_total text.now symbols.now < 2 ^ 32 }
-    ensures { OnOk result (built sections.new.items names.new ≡ added (named_symtab text.now parts.now symbols.now ∷ []) (built sections.old.items names.old)) }
+    ensures { OnOk result (table.new ≡ added (named_symtab text.now parts.now symbols.now ∷ []) table.old) }
 {
     let bytes = symbol_table(alloc, text, parts.len(), symbols)?;
-    let table = TableKind {
+    let kind = TableKind {
         kind: 2,
         link: symtab_of(parts) + 1,
         info: 1 + parts.len() + count_local(symbols),
         align: 4,
         entsize: 16,
     };
-    let section = table_section(alloc, table, bytes.as_slice())?;
-    add(&[], b".symtab", section, sections, names)
+    let section = table_section(alloc, kind, bytes.as_slice())?;
+    table.add(&[], b".symtab", section)
 }
-
-// A table of names has no other numbers.
-const STRINGS: TableKind = TableKind {
-    kind: 3,
-    link: 0,
-    info: 0,
-    align: 1,
-    entsize: 0,
-};
 
 // The names of the symbols.
 #[tactic(auto, unfolding(c6x_asm_form::specs::Filing::named_strtab))]
@@ -71,14 +61,13 @@ fn add_strtab(
     alloc: Global,
     text: &[u8],
     symbols: &[Symbol],
-    sections: &mut Vec<Section>,
-    names: &mut Items<u8>,
+    table: &mut SectionTable,
 ) -> Result<(), AllocError>
-    ensures { OnOk result (built sections.new.items names.new ≡ added (named_strtab text.now symbols.now ∷ []) (built sections.old.items names.old)) }
+    ensures { OnOk result (table.new ≡ added (named_strtab text.now symbols.now ∷ []) table.old) }
 {
     let bytes = name_table(alloc, text, symbols)?;
     let section = table_section(alloc, STRINGS, bytes.as_slice())?;
-    add(&[], b".strtab", section, sections, names)
+    table.add(&[], b".strtab", section)
 }
 
 // All sections but the null section and the names of the sections.
@@ -88,51 +77,22 @@ fn add_sections(
     text: &[u8],
     parts: &[Part],
     symbols: &[Symbol],
-    sections: &mut Vec<Section>,
-    names: &mut Items<u8>,
+    table: &mut SectionTable,
 ) -> Result<(), AllocError>
     requires few { length parts.now < 2 ^ 31 }
     requires names { 1 + names_total text.now symbols.now < 2 ^ 32 }
-    ensures { OnOk result (built sections.new.items names.new ≡ added (named_sections text.now parts.now symbols.now) (built sections.old.items names.old)) }
+    ensures { OnOk result (table.new ≡ added (named_sections text.now parts.now symbols.now) table.old) }
 {
     let numbers = symbol_numbers(alloc, parts.len(), symbols)?;
     let symtab = symtab_of(parts);
-    add_parts(alloc, text, parts, sections, names)?;
-    add_relas(
-        alloc,
-        text,
-        numbers.as_slice(),
-        symtab,
-        parts,
-        sections,
-        names,
-    )?;
-    add_symtab(alloc, text, parts, symbols, sections, names)?;
-    add_strtab(alloc, text, symbols, sections, names)
-}
-
-// The names of the sections.
-#[tactic(auto, unfolding(crate::specs::Adding::with_names))]
-fn add_names(
-    alloc: Global,
-    sections: &mut Vec<Section>,
-    mut names: Items<u8>,
-) -> Result<(), AllocError>
-    ensures { OnOk result (sections.new.items ≡ with_names (built sections.old.items names)) }
-{
-    let at = (names.as_slice().len() % 4_294_967_296) as u32;
-    names.extend(b".shstrtab\0")?;
-    let section = table_section(alloc, STRINGS, names.as_slice())?;
-    sections
-        .push(Section {
-            name: at,
-            ..section
-        })
-        .map_err(AllocError::from)
+    add_parts(alloc, text, parts, table)?;
+    add_relas(alloc, text, numbers.as_slice(), symtab, parts, table)?;
+    add_symtab(alloc, text, parts, symbols, table)?;
+    add_strtab(alloc, text, symbols, table)
 }
 
 /// The object file of these sections and symbols of a text.
-#[tactic(auto, unfolding(c6x_asm_form::specs::Filing::file_of, crate::specs::Adding::first_built), using(crate::proofs::Adds::sections_made))]
+#[tactic(auto, unfolding(c6x_asm_form::specs::Filing::file_of), using(crate::proofs::Adds::sections_made))]
 pub fn file_of(
     alloc: Global,
     text: &[u8],
@@ -143,20 +103,14 @@ pub fn file_of(
     requires names { 1 + names_total text.now symbols.now < 2 ^ 32 }
     ensures { IfOk result (λ file. file ≡ file_of text.now parts.now symbols.now) }
 {
-    let mut sections = Vec::new(alloc);
-    sections
-        .push(null_section(alloc)?)
-        .map_err(AllocError::from)?;
-    let mut names = Items::new(alloc);
-    names.push(0)?;
-    add_sections(alloc, text, parts, symbols, &mut sections, &mut names)?;
-    add_names(alloc, &mut sections, names)?;
+    let mut table = SectionTable::new(alloc)?;
+    add_sections(alloc, text, parts, symbols, &mut table)?;
     Ok(File {
         kind: 1,
         entry: 0,
         flags: 0,
         names: names_number(parts),
         segments: Row::of(Vec::new(alloc)),
-        sections: Row::of(sections),
+        sections: Row::of(table.finish(alloc)?),
     })
 }

@@ -55,6 +55,15 @@ pub struct TableKind {
     pub entsize: u32,
 }
 
+/// A table of names has no other numbers.
+pub const STRINGS: TableKind = TableKind {
+    kind: 3,
+    link: 0,
+    info: 0,
+    align: 1,
+    entsize: 0,
+};
+
 /// The section of a table, without its name.
 #[tactic(auto, unfolding(c6x_asm_form::specs::Headers::table_section))]
 pub fn table_section(alloc: Global, table: TableKind, bytes: &[u8]) -> Result<Section, AllocError>

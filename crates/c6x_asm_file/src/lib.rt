@@ -9,6 +9,7 @@ mod headers;
 mod kinds;
 mod numbering;
 mod relocating;
+mod section_table;
 mod strings;
 
 pub use filing::file_of;

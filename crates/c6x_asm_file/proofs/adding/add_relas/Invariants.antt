@@ -1,10 +1,10 @@
 use Rattle.std.proofs.Common.{◌≡◌, ◌+◌, drop}
 use Rattle.c6x_asm_form.specs.Filing.{named_relas}
-use Rattle.c6x_asm_file.specs.Adding.{built, added}
+use Rattle.c6x_asm_file.specs.Adding.{added}
 use Rattle.c6x_asm_file.proofs.adding.add_relas.Given as goal
 
 abbrev pub invariant-loop-part : goal.invariant-loop-part
 invariant-loop-part l = record {
-  made : added (named_relas l.text l.numbers l.symtab l.number (drop l.part-index l.parts)) (built l.sections.items l.names) ≡ added (named_relas l.text l.numbers l.symtab 1 l.parts) (built l.initial.sections.items l.initial.names);
+  made : added (named_relas l.text l.numbers l.symtab l.number (drop l.part-index l.parts)) l.table ≡ added (named_relas l.text l.numbers l.symtab 1 l.parts) l.initial.table;
   number : l.number ≡ l.part-index + 1;
 }
