@@ -1,7 +1,7 @@
 -- What is true of the sections and symbols of a text that breaks no rule.
 use Rattle.std.proofs.Common.{◌≡◌, ℕ, ◌+◌, Bool, true, false, cond, List, [], ◌∷◌, Option, Some, None, Result, Ok, Err, refl, ◌∙◌, ap, subst}
 use Rattle.c6x_lex.specs.declared.token.Token.{Token}
-use Rattle.c6x_lex.specs.Tokens.{Spot, tokens_of}
+use Rattle.c6x_lex.specs.Tokens.{Position, tokens_of}
 use Rattle.c6x_asm_lines.specs.declared.lexeme.Lexeme.{Lexeme}
 use Rattle.c6x_asm_lines.specs.declared.line.Line.{Line}
 use Rattle.c6x_asm_lines.specs.Grammar.{line_of}
@@ -34,8 +34,8 @@ sized_same : (text : List ℕ) (r : Result State AsmRule) (t : State) → sized 
 sized_same text (Ok s) t is = ap Ok (passed _ _ s t is).1
 sized_same text (Err rule) t is = absurd (cc)
 
-sized_small : (text : List ℕ) (r : Result State AsmRule) (t : State) → sized text r ≡ Ok t → is_large text t.parts t.symbols ≡ false
-sized_small text (Ok s) t is = let p = passed _ _ s t is in subst (λ u. is_large text u.parts u.symbols ≡ false) p.1 p.0
+sized_small : (text : List ℕ) (r : Result State AsmRule) (t : State) → sized text r ≡ Ok t → is_large text t.sections t.symbols ≡ false
+sized_small text (Ok s) t is = let p = passed _ _ s t is in subst (λ u. is_large text u.sections u.symbols ≡ false) p.1 p.0
 sized_small text (Err rule) t is = absurd (cc)
 
 read_sound : (text : List ℕ) (number : ℕ) (line : Option Line) (s t : State) → IsStateSound s → read_line text number line s ≡ Ok t → IsStateSound t
@@ -81,11 +81,11 @@ lines_kept text lines t is = by (after_lines text 1 nothing lines) refl is
     behind (Some n) e here = cc
 
     never : (broken : Broken) (r : Result State Broken) → stopped broken r ≡ Ok t → ⊥
-    never broken (Ok u) here = behind (bad_line None u.parts) broken here
+    never broken (Ok u) here = behind (bad_line None u.sections) broken here
     never broken (Err other) here = cc
 
     by : (r : Result State Broken) → after_lines text 1 nothing lines ≡ r → ended text lines r ≡ Ok t → IsKept text t
-    by (Ok u) ran here = after_kept text lines 1 nothing t (nothing_kept text) (ran ∙ ap Ok (packets (bad_line None u.parts) u here))
+    by (Ok u) ran here = after_kept text lines 1 nothing t (nothing_kept text) (ran ∙ ap Ok (packets (bad_line None u.sections) u here))
     by (Err broken) ran here = absurd (never broken (after_lines text 1 nothing (before broken.line lines)) here)
 
 -- the sections and symbols of an accepted text are sound and pass no limit
@@ -93,6 +93,6 @@ pub read_kept : (text : List ℕ) (t : State) → read_of text ≡ Ok t → IsKe
 unfolding read_of
 read_kept text t is = by (tokens_of text) is
   where
-    by : (r : Result (List Token) Spot) → read_tokens text r ≡ Ok t → IsKept text t
+    by : (r : Result (List Token) Position) → read_tokens text r ≡ Ok t → IsKept text t
     by (Ok tokens) here = lines_kept text (lines_of text tokens) t here
-    by (Err spot) here = absurd (cc)
+    by (Err definition) here = absurd (cc)

@@ -2,7 +2,7 @@
 use Rattle.std.proofs.Common.{◌≡◌, ℕ, ◌+◌, ◌^◌, ◌<◌, false, List, ◌++◌, Ok, length, subst, arith}
 use Rattle.c6x_elf.specs.Form.{IsTidy}
 use Rattle.c6x_asm_object.specs.declared.object.Object.{Object}
-use Rattle.c6x_asm_object.specs.declared.part.Part.{Part}
+use Rattle.c6x_asm_object.specs.declared.asm_section.AsmSection.{AsmSection}
 use Rattle.c6x_asm_object.specs.declared.symbol.Symbol.{Symbol}
 use Rattle.c6x_asm_object.specs.Symbols.{names_total}
 use Rattle.c6x_asm_form.specs.Filing.{file_of, named_strtab, sections_of}
@@ -10,27 +10,27 @@ use Rattle.c6x_asm_form.specs.Headers.{table_section}
 use Rattle.c6x_asm_form.specs.Limits.{is_large}
 use Rattle.c6x_asm_form.proofs.Limited.{IsLimited, IsShort, limited, or_later, short_from}
 use Rattle.c6x_asm_form.proofs.Lists.{Each, each_back}
-use Rattle.c6x_asm_form.proofs.Places.{arranged, every, length-sections_all, of_parts, of_relas, of_tables}
+use Rattle.c6x_asm_form.proofs.Places.{arranged, every, length-sections_all, of_sections, of_relas, of_tables}
 use Rattle.c6x_asm_form.proofs.Tidy.{tidy}
 use Rattle.c6x_asm_limits.proofs.Lengths.{length-name_table}
 use Rattle.c6x_asm_steps.specs.States.{state_of}
 use Rattle.c6x_asm.specs.Reading.{read_of}
 use Rattle.c6x_asm.proofs.Kept.{read_kept}
 
-opened : (text : List ℕ) (ps : List Part) (names : List Symbol) → is_large text ps names ≡ false → IsLimited (file_of text ps names)
+opened : (text : List ℕ) (ps : List AsmSection) (names : List Symbol) → is_large text ps names ≡ false → IsLimited (file_of text ps names)
 unfolding is_large
 opened text ps names small = limited (file_of text ps names) small
 
-few : (text : List ℕ) (ps : List Part) (names : List Symbol) → IsLimited (file_of text ps names) → length ps < 2 ^ 31
+few : (text : List ℕ) (ps : List AsmSection) (names : List Symbol) → IsLimited (file_of text ps names) → length ps < 2 ^ 31
 unfolding file_of sections_of
 few text ps names within = omega (arith, within.count, length-sections_all text ps names)
 
-short_names : (text : List ℕ) (ps : List Part) (names : List Symbol) → IsLimited (file_of text ps names) → IsShort (named_strtab text names)
+short_names : (text : List ℕ) (ps : List AsmSection) (names : List Symbol) → IsLimited (file_of text ps names) → IsShort (named_strtab text names)
 unfolding file_of sections_of
 short_names text ps names within =
     let each : Each IsShort (every text ps names) = short_from 1 (every text ps names) (or_later _ _ within.each) in
     (each_back IsShort (of_relas text ps names) (of_tables text ps names)
-    (each_back IsShort (of_parts text ps) (of_relas text ps names ++ of_tables text ps names)
+    (each_back IsShort (of_sections text ps) (of_relas text ps names ++ of_tables text ps names)
     (subst (Each IsShort) (arranged text ps names) each))).1.0
 
 names_fit : (text : List ℕ) (names : List Symbol) → IsShort (named_strtab text names) → 1 + names_total text names < 2 ^ 32
@@ -38,15 +38,15 @@ unfolding named_strtab table_section
 names_fit text names short = omega (arith, short.bytes, length-name_table text names)
 
 -- the sections of an accepted text can be numbered
-pub parts_few : (text : List ℕ) (o : Object) → read_of text ≡ Ok (state_of o) → length o.parts.items < 2 ^ 31
-parts_few text o is = let s = state_of o in few text s.parts s.symbols (opened text s.parts s.symbols (read_kept text s is).small)
+pub sections_few : (text : List ℕ) (o : Object) → read_of text ≡ Ok (state_of o) → length o.sections.items < 2 ^ 31
+sections_few text o is = let s = state_of o in few text s.sections s.symbols (opened text s.sections s.symbols (read_kept text s is).small)
 
 -- the offsets of its names are numbers of 32 bits
 pub names_few : (text : List ℕ) (o : Object) → read_of text ≡ Ok (state_of o) → 1 + names_total text o.symbols.list.items < 2 ^ 32
 names_few text o is =
     let s = state_of o in
-    names_fit text s.symbols (short_names text s.parts s.symbols (opened text s.parts s.symbols (read_kept text s is).small))
+    names_fit text s.symbols (short_names text s.sections s.symbols (opened text s.sections s.symbols (read_kept text s is).small))
 
 -- its object is tidy
-pub object_tidy : (text : List ℕ) (o : Object) → read_of text ≡ Ok (state_of o) → IsTidy (file_of text o.parts.items o.symbols.list.items)
-object_tidy text o is = let s = state_of o in let kept = read_kept text s is in tidy text s.parts s.symbols kept.sound.sound kept.small
+pub object_tidy : (text : List ℕ) (o : Object) → read_of text ≡ Ok (state_of o) → IsTidy (file_of text o.sections.items o.symbols.list.items)
+object_tidy text o is = let s = state_of o in let kept = read_kept text s is in tidy text s.sections s.symbols kept.sound.sound kept.small

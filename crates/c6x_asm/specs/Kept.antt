@@ -6,4 +6,4 @@ use Rattle.c6x_asm_steps.specs.Keeping.{IsStateSound}
 
 pub record IsKept (text : List ℕ) (s : State) : Type 0 where
   pub sound : IsStateSound s
-  pub small : is_large text s.parts s.symbols ≡ false
+  pub small : is_large text s.sections s.symbols ≡ false

@@ -9,7 +9,7 @@ use Rattle.c6x_asm_lines.specs.declared.rule.AsmRule.{AsmRule}
 use Rattle.c6x_asm_lines.specs.declared.rule.AsmRule.TheVariants.{Syntax, Large}
 use Rattle.c6x_asm_form.specs.Limits.{is_large}
 use Rattle.c6x_asm_steps.specs.States.{State}
-use Rattle.c6x_asm_steps.specs.Stepping.{stepped}
+use Rattle.c6x_asm_steps.specs.Lines.{stepped}
 use Rattle.c6x_asm.specs.declared.broken.Broken.{Broken}
 
 -- a line's number may not pass 65,536
@@ -19,7 +19,7 @@ counted number (Err rule) = Err rule
 
 -- the object of the lines so far passes no limit
 abbrev pub sized : List ℕ → Result State AsmRule → Result State AsmRule
-sized text (Ok s) = if is_large text s.parts s.symbols then Err Large else Ok s
+sized text (Ok s) = if is_large text s.sections s.symbols then Err Large else Ok s
 sized text (Err rule) = Err rule
 
 abbrev pub read_line : List ℕ → ℕ → Option Line → State → Result State AsmRule

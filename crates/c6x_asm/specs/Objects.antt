@@ -9,7 +9,7 @@ use Rattle.c6x_asm.specs.declared.broken.Broken.{Broken}
 use Rattle.c6x_asm.specs.Reading.{read_of}
 
 abbrev pub object_from : List ℕ → Result State Broken → Result File Broken
-object_from text (Ok s) = Ok (file_of text s.parts s.symbols)
+object_from text (Ok s) = Ok (file_of text s.sections s.symbols)
 object_from text (Err broken) = Err broken
 
 -- the object of a text's sections and symbols, or the first rule that the text breaks

@@ -1,7 +1,7 @@
 -- A packet goes from an instruction without `||` to the last one with it (SPRU732, "Parallel Operations").
 use Rattle.std.specs.Prelude.{ℕ, ◌+◌, ◌-◌, ◌%◌, ◌==◌, nat_le, Bool, true, false, not, ◌&&◌, if◌then◌else◌, List, [], ◌∷◌, ◌++◌, length, map, take, slice_index, Option, Some, None, is_ok}
 use Rattle.c6x_packet.specs.Packets.{split_of}
-use Rattle.c6x_asm_object.specs.declared.slot.Slot.{Slot}
+use Rattle.c6x_asm_object.specs.declared.instr_word.InstrWord.{InstrWord}
 
 -- the word with its p bit set, and with it clear
 abbrev pub odd : ℕ → ℕ
@@ -25,11 +25,11 @@ abbrev pub joined_to : Bool → List ℕ → ℕ → List ℕ
 joined_to chained words word = if chained then words ++ word ∷ [] else word ∷ []
 
 -- the first line of the first packet that is none, where `words` are those of the packet so far
-abbrev pub bad_from : ℕ → List ℕ → List Slot → Option ℕ
+abbrev pub bad_from : ℕ → List ℕ → List InstrWord → Option ℕ
 bad_from line words [] = if is_packet words then None else Some line
-bad_from line words (s ∷ slots) =
+bad_from line words (s ∷ instructions) =
     if not s.chained && not (is_packet words) then Some line
-    else bad_from (if s.chained then line else s.line) (joined_to s.chained words s.word) slots
+    else bad_from (if s.chained then line else s.line) (joined_to s.chained words s.word) instructions
 
-unfoldable pub first_bad : List Slot → Option ℕ
-first_bad slots = bad_from 0 [] slots
+unfoldable pub first_bad : List InstrWord → Option ℕ
+first_bad instructions = bad_from 0 [] instructions

@@ -1,11 +1,11 @@
 -- The sections and symbols of a text, or the first rule that it breaks.
 use Rattle.std.specs.Prelude.{◌≡◌, ℕ, ◌-◌, min, List, [], ◌∷◌, take, Option, Some, None, Result, Ok, Err}
 use Rattle.c6x_lex.specs.declared.token.Token.{Token}
-use Rattle.c6x_lex.specs.Tokens.{Spot, tokens_of}
+use Rattle.c6x_lex.specs.Tokens.{Position, tokens_of}
 use Rattle.c6x_asm_lines.specs.declared.lexeme.Lexeme.{Lexeme}
 use Rattle.c6x_asm_lines.specs.declared.rule.AsmRule.TheVariants.{BadByte, Packet}
 use Rattle.c6x_asm_object.specs.declared.object.Object.{Object}
-use Rattle.c6x_asm_object.specs.declared.part.Part.{Part}
+use Rattle.c6x_asm_object.specs.declared.asm_section.AsmSection.{AsmSection}
 use Rattle.c6x_asm.specs.Packets.{first_bad}
 use Rattle.c6x_asm_steps.specs.States.{State, state_of}
 use Rattle.c6x_asm.specs.declared.asm_error.AsmError.{AsmError}
@@ -20,16 +20,16 @@ lower_line (Some a) None = Some a
 lower_line (Some a) (Some b) = Some (min a b)
 
 -- the lowest first line of a packet of these sections that is none, or the one so far
-abbrev pub bad_line : Option ℕ → List Part → Option ℕ
+abbrev pub bad_line : Option ℕ → List AsmSection → Option ℕ
 bad_line line [] = line
-bad_line line (p ∷ parts) = bad_line (lower_line line (first_bad p.slots)) parts
+bad_line line (p ∷ sections) = bad_line (lower_line line (first_bad p.instructions)) sections
 
 abbrev pub or_packet : Option ℕ → Result State Broken → Result State Broken
 or_packet None r = r
 or_packet (Some line) r = Err (record { rule = Packet; line = line })
 
 abbrev pub nothing : State
-nothing = record { parts = []; now = None; symbols = [] }
+nothing = record { sections = []; now = None; symbols = [] }
 
 -- all lines but those from this number on
 abbrev pub before : ℕ → List (List Lexeme) → List (List Lexeme)
@@ -37,20 +37,20 @@ before number lines = take (number - 1) lines
 
 -- a line breaks a rule: the packets of the lines before it are lower
 abbrev pub stopped : Broken → Result State Broken → Result State Broken
-stopped broken (Ok s) = or_packet (bad_line None s.parts) (Err broken)
+stopped broken (Ok s) = or_packet (bad_line None s.sections) (Err broken)
 stopped broken (Err other) = Err broken
 
 -- how the lines end, by what they come to
 abbrev pub ended : List ℕ → List (List Lexeme) → Result State Broken → Result State Broken
-ended text lines (Ok s) = or_packet (bad_line None s.parts) (Ok s)
+ended text lines (Ok s) = or_packet (bad_line None s.sections) (Ok s)
 ended text lines (Err broken) = stopped broken (after_lines text 1 nothing (before broken.line lines))
 
 unfoldable pub read_lines : List ℕ → List (List Lexeme) → Result State Broken
 read_lines text lines = ended text lines (after_lines text 1 nothing lines)
 
-abbrev pub read_tokens : List ℕ → Result (List Token) Spot → Result State Broken
+abbrev pub read_tokens : List ℕ → Result (List Token) Position → Result State Broken
 read_tokens text (Ok tokens) = read_lines text (lines_of text tokens)
-read_tokens text (Err spot) = Err (record { rule = BadByte; line = spot.line })
+read_tokens text (Err definition) = Err (record { rule = BadByte; line = definition.line })
 
 -- the sections and symbols of a text, or the first rule that it breaks: a byte that starts no token before all others,
 -- then the rule of the lowest line, and on one line the lowest rule

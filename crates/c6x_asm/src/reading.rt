@@ -11,7 +11,7 @@ use crate::checking::first_bad;
 use crate::running::{add_line, ends_in_newline, run};
 use c6x_asm_limits::Outline;
 use c6x_asm_lines::{AsmRule, Lexeme};
-use c6x_asm_object::{Object, Part};
+use c6x_asm_object::{Object, AsmSection};
 use c6x_lex::{LexError, Token, lex};
 use std::alloc::{AllocError, Global};
 
@@ -25,12 +25,12 @@ fn lower_line(a: Option<u32>, b: Option<u32>) -> Option<u32>
     }
 }
 
-fn bad_line(alloc: Global, parts: &[Part]) -> Result<Option<u32>, AllocError>
-    ensures { IfOk result (λ line. line ≡ bad_line None parts.now) }
+fn bad_line(alloc: Global, sections: &[AsmSection]) -> Result<Option<u32>, AllocError>
+    ensures { IfOk result (λ line. line ≡ bad_line None sections.now) }
 {
     let mut line = None;
-    for part in parts {
-        line = lower_line(line, first_bad(alloc, part.slots.as_slice())?);
+    for section in sections {
+        line = lower_line(line, first_bad(alloc, section.instructions.as_slice())?);
     }
     Ok(line)
 }
@@ -58,7 +58,7 @@ fn packet_before(
     if run(alloc, text, tokens, end, &mut lexemes, &mut object)?.is_err() {
         return Ok(broken);
     }
-    match bad_line(alloc, object.parts.as_slice())? {
+    match bad_line(alloc, object.sections.as_slice())? {
         Some(line) => Ok(Broken {
             rule: AsmRule::Packet,
             line,
@@ -97,7 +97,7 @@ fn add_last<'a>(
     if ends_in_newline(text) {
         return Ok(Ok(()));
     }
-    let mut outline = Outline::of(alloc, text, &object.parts)?;
+    let mut outline = Outline::of(alloc, text, &object.sections)?;
     match add_line(alloc, text, line, lexemes, object, &mut outline)? {
         Ok(()) => Ok(Ok(())),
         Err(rule) => Ok(Err(Broken { rule, line })),
@@ -146,7 +146,7 @@ fn ended<'a>(alloc: Global, text: &'a [u8], tokens: &[Token]) -> Result<Object<'
 {
     let mut object = nothing(alloc, text);
     match add_lines(alloc, text, tokens, &mut object)? {
-        Ok(()) => match bad_line(alloc, object.parts.as_slice())? {
+        Ok(()) => match bad_line(alloc, object.sections.as_slice())? {
             Some(line) => Err(AsmError::Rule {
                 rule: AsmRule::Packet,
                 line,

@@ -44,17 +44,17 @@ fn read_followed<'a>(
     outline: &mut Outline,
 ) -> Result<Result<(), AsmRule>, AllocError>
     requires sound { IsSound text.now object.old }
-    requires outline { AreBlocks text.now object.old.parts.items outline.old }
+    requires outline { AreBlocks text.now object.old.sections.items outline.old }
     ensures is { IfOk result (λ done. Becomes done object.new (read_line text.now number (line_of lexemes.now) (state_of object.old))) }
     ensures sound { IfOk result (λ done. IsSound text.now object.new) }
-    ensures outline { IfOk result (λ done. OnOk done (AreBlocks text.now object.new.parts.items outline.new)) }
+    ensures outline { IfOk result (λ done. OnOk done (AreBlocks text.now object.new.sections.items outline.new)) }
 {
-    let count = object.parts.as_slice().len();
+    let count = object.sections.as_slice().len();
     let current = object.current;
     match read_line(alloc, text, number, lexemes, object)? {
         Err(rule) => Ok(Err(rule)),
         Ok(()) => {
-            outline.follow(text, &object.parts, count, current)?;
+            outline.follow(text, &object.sections, count, current)?;
             Ok(Ok(()))
         }
     }
@@ -63,13 +63,13 @@ fn read_followed<'a>(
 // `Large` where the object of the lines so far passes a limit.
 fn limit_fault(text: &[u8], object: &Object, outline: &Outline) -> Option<AsmRule>
     requires sound { IsSound text.now object.now }
-    requires outline { AreBlocks text.now object.now.parts.items outline.now }
-    ensures { result ≡ (if is_large text.now object.now.parts.items object.now.symbols.list.items then Some Large else None) }
+    requires outline { AreBlocks text.now object.now.sections.items outline.now }
+    ensures { result ≡ (if is_large text.now object.now.sections.items object.now.symbols.list.items then Some Large else None) }
 {
     let symbols = &object.symbols;
     if is_large(
         text,
-        &object.parts,
+        &object.sections,
         &symbols.list,
         symbols.names_len,
         outline,
@@ -89,10 +89,10 @@ fn sized<'a>(
     outline: &mut Outline,
 ) -> Result<Result<(), AsmRule>, AllocError>
     requires sound { IsSound text.now object.old }
-    requires outline { AreBlocks text.now object.old.parts.items outline.old }
+    requires outline { AreBlocks text.now object.old.sections.items outline.old }
     ensures is { IfOk result (λ done. Becomes done object.new (sized text.now (read_line text.now number (line_of lexemes.now) (state_of object.old)))) }
     ensures sound { IfOk result (λ done. IsSound text.now object.new) }
-    ensures outline { IfOk result (λ done. OnOk done (AreBlocks text.now object.new.parts.items outline.new)) }
+    ensures outline { IfOk result (λ done. OnOk done (AreBlocks text.now object.new.sections.items outline.new)) }
 {
     match read_followed(alloc, text, number, lexemes, object, outline)? {
         Err(rule) => Ok(Err(rule)),
@@ -114,11 +114,11 @@ pub fn add_line<'a>(
     outline: &mut Outline,
 ) -> Result<Result<(), AsmRule>, AllocError>
     requires sound { IsSound text.now object.old }
-    requires outline { AreBlocks text.now object.old.parts.items outline.old }
+    requires outline { AreBlocks text.now object.old.sections.items outline.old }
     ensures is { IfOk result (λ done. Becomes done object.new (lined text.now number lexemes.now (state_of object.old))) }
     ensures sound { IfOk result (λ done. IsSound text.now object.new) }
     ensures small { IfOk result (λ done. OnOk done (number ≤ 65536)) }
-    ensures outline { IfOk result (λ done. OnOk done (AreBlocks text.now object.new.parts.items outline.new)) }
+    ensures outline { IfOk result (λ done. OnOk done (AreBlocks text.now object.new.sections.items outline.new)) }
 {
     match sized(alloc, text, number, lexemes, object, outline)? {
         Err(rule) => Ok(Err(rule)),
@@ -154,11 +154,11 @@ fn advance<'a>(
     requires some { 1 ≤ token.len }
     requires lines { line ≤ 65537 }
     requires sound { IsSound text.now object.old }
-    requires outline { AreBlocks text.now object.old.parts.items outline.old }
+    requires outline { AreBlocks text.now object.old.sections.items outline.old }
     ensures goes { IfOk result (λ r. (end : Option ℕ) (tokens : List Token) → is_end end line ≡ false → Goes r line (run_from text.now end line lexemes.old.items (state_of object.old) (token ∷ tokens)) (λ next. run_from text.now end next lexemes.new.items (state_of object.new) tokens)) }
     ensures lines { IfOk result (λ r. IfOk r (λ next. next ≤ 65537)) }
     ensures sound { IfOk result (λ r. IsSound text.now object.new) }
-    ensures outline { IfOk result (λ r. OnOk r (AreBlocks text.now object.new.parts.items outline.new)) }
+    ensures outline { IfOk result (λ r. OnOk r (AreBlocks text.now object.new.sections.items outline.new)) }
 {
     match lexeme_of(text, token) {
         Some(lexeme) => {
@@ -200,7 +200,7 @@ pub fn run<'a>(
     ensures sound { IfOk result (λ r. IsSound text.now object.new) }
 {
     let mut line = 1;
-    let mut outline = Outline::of(alloc, text, &object.parts)?;
+    let mut outline = Outline::of(alloc, text, &object.sections)?;
     for token in tokens {
         if is_end(end, line) {
             return Ok(Ok(line));

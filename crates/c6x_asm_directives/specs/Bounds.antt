@@ -1,6 +1,6 @@
 use Rattle.std.specs.Prelude.{◌≤◌}
 use Rattle.c6x_asm_directives.specs.declared.directive.Directive.{Directive}
-use Rattle.c6x_asm_directives.specs.declared.directive.Directive.TheVariants.{Section, Numbers, Space, Align, Mark as Marks, Common, Set}
+use Rattle.c6x_asm_directives.specs.declared.directive.Directive.TheVariants.{Section, Numbers, Space, Align, Attribute as SetAttribute, Common, Set}
 
 -- numbers have at most four bytes, and an alignment is not zero
 abbrev pub FitsDirective : Directive → Type 0

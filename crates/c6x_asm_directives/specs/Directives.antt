@@ -5,22 +5,22 @@ use Rattle.c6x_reloc.specs.declared.reloc_kind.RelocKind.{RelocKind}
 use Rattle.c6x_reloc.specs.declared.reloc_kind.RelocKind.TheVariants.{ABS32}
 use Rattle.c6x_asm_lines.specs.declared.operand.Operand.{Operand}
 use Rattle.c6x_asm_lines.specs.declared.operand.Operand.TheVariants.{Text as TextOperand, Value as ValueOperand}
-use Rattle.c6x_asm_lines.specs.declared.plain.Plain.{Plain}
-use Rattle.c6x_asm_lines.specs.declared.plain.Plain.TheVariants.{Symbol as PlainSymbol}
-use Rattle.c6x_asm_lines.specs.declared.value.Value.TheVariants.{Plain as PlainValue}
+use Rattle.c6x_asm_lines.specs.declared.primary.Primary.{Primary}
+use Rattle.c6x_asm_lines.specs.declared.primary.Primary.TheVariants.{Symbol as PrimarySymbol}
+use Rattle.c6x_asm_lines.specs.declared.value.Value.TheVariants.{Primary as PrimaryValue}
 use Rattle.c6x_asm_lines.specs.declared.word.Word.{Word}
-use Rattle.c6x_asm_operands.specs.declared.made.Field.{Field}
+use Rattle.c6x_asm_operands.specs.declared.relocatable.Field.{Field}
 use Rattle.c6x_asm_operands.specs.declared.range.Range.{Range}
 use Rattle.c6x_asm_lines.specs.declared.rule.AsmRule.{AsmRule}
 use Rattle.c6x_asm_lines.specs.declared.rule.AsmRule.TheVariants.{Syntax, UnknownWord, Operand as BadOperand, Range as OutOfRange}
 use Rattle.c6x_asm_operands.specs.Operands.{constant_operand, field_operand}
 use Rattle.c6x_asm_lines.specs.Rules.{lower, both, ◌>>=◌}
 use Rattle.c6x_asm_directives.specs.declared.directive.Directive.{Directive}
-use Rattle.c6x_asm_directives.specs.declared.directive.Directive.TheVariants.{Section, Numbers, Space, Align, Mark as Marks, Common, Set}
+use Rattle.c6x_asm_directives.specs.declared.directive.Directive.TheVariants.{Section, Numbers, Space, Align, Attribute as SetAttribute, Common, Set}
 use Rattle.c6x_asm_directives.specs.declared.keyword.Keyword.{Keyword}
 use Rattle.c6x_asm_directives.specs.declared.keyword.Keyword.TheVariants.{Sect, Word as WordKey, Half, Byte, Space as SpaceKey, Align as AlignKey, Global, Weak, Hidden, Common as CommonKey, NearCommon, Set as SetKey}
-use Rattle.c6x_asm_directives.specs.declared.mark.Mark.{Mark}
-use Rattle.c6x_asm_directives.specs.declared.mark.Mark.TheVariants.{Global as MarkGlobal, Weak as MarkWeak, Hidden as MarkHidden}
+use Rattle.c6x_asm_directives.specs.declared.symbol_attribute.SymbolAttribute.{SymbolAttribute}
+use Rattle.c6x_asm_directives.specs.declared.symbol_attribute.SymbolAttribute.TheVariants.{Global as AttributeGlobal, Weak as AttributeWeak, Hidden as AttributeHidden}
 
 abbrev pub range_of : ℕ → ℕ → ℕ → ℕ → Range
 range_of below least most modulus = record { below = below; least = least; most = most; step = 1; modulus = modulus }
@@ -88,12 +88,12 @@ align_of _ = Err Syntax
 
 -- a name alone
 unfoldable pub name_operand : Operand → Result Word AsmRule
-name_operand (ValueOperand (PlainValue (PlainSymbol name None))) = Ok name
+name_operand (ValueOperand (PrimaryValue (PrimarySymbol name None))) = Ok name
 name_operand _ = Err BadOperand
 
-abbrev pub mark_of : Mark → List Operand → Result Directive AsmRule
-mark_of mark (name ∷ []) = name_operand name >>= λ word. Ok (Marks mark word)
-mark_of mark _ = Err Syntax
+abbrev pub attribute_of : SymbolAttribute → List Operand → Result Directive AsmRule
+attribute_of attribute (name ∷ []) = name_operand name >>= λ word. Ok (SetAttribute attribute word)
+attribute_of attribute _ = Err Syntax
 
 abbrev pub common_of : Bool → List Operand → Result Directive AsmRule
 common_of near (name ∷ size ∷ align ∷ []) =
@@ -114,9 +114,9 @@ directive_by text Half operands = numbers_of text 2 operands
 directive_by text Byte operands = numbers_of text 1 operands
 directive_by text SpaceKey operands = space_of operands
 directive_by text AlignKey operands = align_of operands
-directive_by text Global operands = mark_of MarkGlobal operands
-directive_by text Weak operands = mark_of MarkWeak operands
-directive_by text Hidden operands = mark_of MarkHidden operands
+directive_by text Global operands = attribute_of AttributeGlobal operands
+directive_by text Weak operands = attribute_of AttributeWeak operands
+directive_by text Hidden operands = attribute_of AttributeHidden operands
 directive_by text CommonKey operands = common_of false operands
 directive_by text NearCommon operands = common_of true operands
 directive_by text SetKey operands = set_of operands

@@ -6,9 +6,9 @@ use Rattle.c6x_asm_lines.specs.declared.offset.Offset.{Offset}
 use Rattle.c6x_asm_lines.specs.declared.offset.Offset.TheVariants.{Missing, Bracket, Parenthesis}
 use Rattle.c6x_asm_lines.specs.declared.operand.Operand.{Operand}
 use Rattle.c6x_asm_lines.specs.declared.operand.Operand.TheVariants.{Text as TextOperand, Address as AddressOperand, Value as ValueOperand}
-use Rattle.c6x_asm_lines.specs.declared.plain.Plain.{Plain}
+use Rattle.c6x_asm_lines.specs.declared.primary.Primary.{Primary}
 use Rattle.c6x_asm_lines.specs.declared.value.Value.{Value}
-use Rattle.c6x_asm_lines.specs.declared.value.Value.TheVariants.{Plain as PlainValue, Kind as KindValue}
+use Rattle.c6x_asm_lines.specs.declared.value.Value.TheVariants.{Primary as PrimaryValue, Kind as KindValue}
 use Rattle.c6x_asm_lines.specs.declared.rule.AsmRule.{AsmRule}
 use Rattle.c6x_asm_lines.specs.declared.rule.AsmRule.TheVariants.{Syntax, UnknownWord}
 use Rattle.c6x_asm_operands.specs.Names.{kind_of}
@@ -16,18 +16,18 @@ use Rattle.c6x_asm_lines.specs.Bytes.{bytes_at}
 use Rattle.c6x_asm_lines.specs.Rules.{lowest}
 
 -- `%dsbt_index` stands alone, and every other kind has an operand in parentheses
-abbrev pub stands_wrong : RelocKind → Option Plain → Bool
+abbrev pub stands_wrong : RelocKind → Option Primary → Bool
 stands_wrong DSBT_INDEX None = false
 stands_wrong DSBT_INDEX (Some inner) = true
 stands_wrong kind None = true
 stands_wrong kind (Some inner) = false
 
-abbrev pub kind_fault : Option RelocKind → Option Plain → Option AsmRule
+abbrev pub kind_fault : Option RelocKind → Option Primary → Option AsmRule
 kind_fault None inner = Some UnknownWord
 kind_fault (Some kind) inner = if stands_wrong kind inner then Some Syntax else None
 
 abbrev pub value_fault : List ℕ → Value → Option AsmRule
-value_fault text (PlainValue p) = None
+value_fault text (PrimaryValue p) = None
 value_fault text (KindValue kind inner) = kind_fault (kind_of (bytes_at text kind.at kind.len)) inner
 
 abbrev pub offset_fault : List ℕ → Offset → Option AsmRule

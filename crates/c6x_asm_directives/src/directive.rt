@@ -1,4 +1,4 @@
-use crate::mark::Mark;
+use crate::symbol_attribute::SymbolAttribute;
 use c6x_asm_lines::Word;
 use c6x_asm_operands::Field;
 use c6x_base::Row;
@@ -19,8 +19,8 @@ pub enum Directive {
     Space(u32),
     Align(u32),
     /// `.global`, `.weak` or `.hidden`.
-    Mark {
-        mark: Mark,
+    Attribute {
+        attribute: SymbolAttribute,
         name: Word,
     },
     /// `.common`, or `.nearcommon`.

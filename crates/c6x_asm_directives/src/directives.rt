@@ -1,14 +1,14 @@
 ghost use Rattle.std.specs.Prelude.{◌≡◌, ◌^◌, ◌<◌, ◌≤◌, true, IfOk};
 ghost use Rattle.std.specs.List.{list_all};
 ghost use Rattle.c6x_asm_directives.specs.Bounds.{FitsDirective};
-ghost use Rattle.c6x_asm_directives.specs.Directives.{is_visible, is_section_name, section_named, sect_of, numbers_of, space_of, is_power, align_of, name_operand, mark_of, common_of, set_of, directive_by};
+ghost use Rattle.c6x_asm_directives.specs.Directives.{is_visible, is_section_name, section_named, sect_of, numbers_of, space_of, is_power, align_of, name_operand, attribute_of, common_of, set_of, directive_by};
 ghost use Rattle.c6x_asm_lines.specs.Bytes.{bytes_at};
 
 use crate::directive::Directive;
 use crate::fields::fields_of;
 use crate::keyword::Keyword;
-use crate::mark::Mark;
-use c6x_asm_lines::{AsmRule, both, Operand, Plain, Value, Word};
+use crate::symbol_attribute::SymbolAttribute;
+use c6x_asm_lines::{AsmRule, both, Operand, Primary, Value, Word};
 use c6x_asm_operands::{constant_operand, Range};
 use c6x_base::Row;
 use std::alloc::{AllocError, Global};
@@ -143,19 +143,19 @@ fn name_operand(operand: Operand) -> Result<Word, AsmRule>
     ensures { result ≡ name_operand operand }
 {
     match operand {
-        Operand::Value(Value::Plain(Plain::Symbol { name, addend: None })) => Ok(name),
+        Operand::Value(Value::Primary(Primary::Symbol { name, addend: None })) => Ok(name),
         _ => Err(AsmRule::Operand),
     }
 }
 
-fn mark_of(mark: Mark, operands: &[Operand]) -> Result<Directive, AsmRule>
-    ensures is { result ≡ mark_of mark operands.now }
+fn attribute_of(attribute: SymbolAttribute, operands: &[Operand]) -> Result<Directive, AsmRule>
+    ensures is { result ≡ attribute_of attribute operands.now }
     ensures fits { IfOk result FitsDirective }
 {
     match operands {
         [name] => {
             let name = name_operand(*name)?;
-            Ok(Directive::Mark { mark, name })
+            Ok(Directive::Attribute { attribute, name })
         }
         _ => Err(AsmRule::Syntax),
     }
@@ -212,9 +212,9 @@ pub fn directive_of(
         Keyword::Byte => numbers_of(alloc, text, 1, operands),
         Keyword::Space => Ok(space_of(operands)),
         Keyword::Align => Ok(align_of(operands)),
-        Keyword::Global => Ok(mark_of(Mark::Global, operands)),
-        Keyword::Weak => Ok(mark_of(Mark::Weak, operands)),
-        Keyword::Hidden => Ok(mark_of(Mark::Hidden, operands)),
+        Keyword::Global => Ok(attribute_of(SymbolAttribute::Global, operands)),
+        Keyword::Weak => Ok(attribute_of(SymbolAttribute::Weak, operands)),
+        Keyword::Hidden => Ok(attribute_of(SymbolAttribute::Hidden, operands)),
         Keyword::Common => Ok(common_of(false, operands)),
         Keyword::NearCommon => Ok(common_of(true, operands)),
         Keyword::Set => Ok(set_of(operands)),

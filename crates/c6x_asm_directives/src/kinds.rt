@@ -2,11 +2,11 @@ ghost use Rattle.std.specs.Prelude.{◌≡◌, None};
 ghost use Rattle.c6x_asm_directives.specs.Kinds.{stands_wrong, kind_fault, value_fault, offset_fault, operand_fault, kinds_from};
 ghost use Rattle.c6x_asm_lines.specs.Rules.{lowest};
 
-use c6x_asm_lines::{AsmRule, bytes_at, lowest, Offset, Operand, Plain, Value};
+use c6x_asm_lines::{AsmRule, bytes_at, lowest, Offset, Operand, Primary, Value};
 use c6x_asm_operands::kind_of;
 use c6x_reloc::RelocKind;
 
-fn stands_wrong(kind: RelocKind, inner: Option<Plain>) -> bool
+fn stands_wrong(kind: RelocKind, inner: Option<Primary>) -> bool
     ensures { result ≡ stands_wrong kind inner }
 {
     match (kind, inner) {
@@ -17,7 +17,7 @@ fn stands_wrong(kind: RelocKind, inner: Option<Plain>) -> bool
     }
 }
 
-fn kind_fault(kind: Option<RelocKind>, inner: Option<Plain>) -> Option<AsmRule>
+fn kind_fault(kind: Option<RelocKind>, inner: Option<Primary>) -> Option<AsmRule>
     ensures { result ≡ kind_fault kind inner }
 {
     match kind {
@@ -36,7 +36,7 @@ fn value_fault(text: &[u8], value: Value) -> Option<AsmRule>
     ensures { result ≡ value_fault text.now value }
 {
     match value {
-        Value::Plain(_) => None,
+        Value::Primary(_) => None,
         Value::Kind { kind, inner } => kind_fault(kind_of(bytes_at(text, kind.at, kind.len)), inner),
     }
 }

@@ -6,12 +6,12 @@ mod directives;
 mod fields;
 mod keyword;
 mod kinds;
-mod mark;
+mod symbol_attribute;
 mod names;
 
 pub use directive::Directive;
 pub use directives::directive_of;
 pub use keyword::Keyword;
 pub use kinds::kinds_fault;
-pub use mark::Mark;
+pub use symbol_attribute::SymbolAttribute;
 pub use names::keyword_of;

@@ -2,10 +2,10 @@
 use Rattle.std.proofs.Common.{◌≡◌, ℕ, suc, ◌+◌, ◌<◌, ◌≤◌, ◌%◌, Bool, true, false, List, [], ◌∷◌, ◌++◌, length, drop, get_or, map, ap, sym, ◌∙◌, refl, arith, append_assoc, append-nil, length-append}
 use Rattle.std.proofs.lemmas.List.{drop_more, drop_all}
 use Rattle.c6x_elf.specs.declared.section.Section.{Section}
-use Rattle.c6x_asm_object.specs.declared.part.Part.{Part}
+use Rattle.c6x_asm_object.specs.declared.asm_section.AsmSection.{AsmSection}
 use Rattle.c6x_asm_object.specs.declared.symbol.Symbol.{Symbol}
 use Rattle.c6x_asm_form.specs.Symbols.{symbol_numbers}
-use Rattle.c6x_asm_form.specs.Filing.{Named, names_of, sections_from, sections_of, named_part, named_relas, named_symtab, named_strtab, named_shstrtab, named_sections, has_entries, symtab_of}
+use Rattle.c6x_asm_form.specs.Filing.{Named, names_of, sections_from, sections_of, named_section, named_relas, named_symtab, named_strtab, named_shstrtab, named_sections, has_entries, symtab_of}
 use Rattle.c6x_asm_file.specs.Built.{Built, built}
 use Rattle.c6x_asm_file.specs.Adding.{first_built, named, added, with_names}
 
@@ -42,38 +42,38 @@ added_one front name section x =
     ∙ sym (append_assoc x.names front (name ++ 0 ∷ []))
     ∙ sym (append_assoc (x.names ++ front) name (0 ∷ [])))
 
-pub parts_at : (text : List ℕ) (parts : List Part) (i : ℕ) (d : Part) (x : Built) → i < length parts → added (map (named_part text) (drop i parts)) x ≡ added (map (named_part text) (drop (i + 1) parts)) (added (named_part text (get_or parts i d) ∷ []) x)
-parts_at text parts i d x inside =
-    ap (λ more. added (map (named_part text) more) x) (drop_more parts i d inside)
-    ∙ added_append (named_part text (get_or parts i d) ∷ []) (map (named_part text) (drop (i + 1) parts)) x
+pub added_at : (text : List ℕ) (sections : List AsmSection) (i : ℕ) (d : AsmSection) (x : Built) → i < length sections → added (map (named_section text) (drop i sections)) x ≡ added (map (named_section text) (drop (i + 1) sections)) (added (named_section text (get_or sections i d) ∷ []) x)
+added_at text sections i d x inside =
+    ap (λ more. added (map (named_section text) more) x) (drop_more sections i d inside)
+    ∙ added_append (named_section text (get_or sections i d) ∷ []) (map (named_section text) (drop (i + 1) sections)) x
 
-pub parts_end : (text : List ℕ) (parts : List Part) (i : ℕ) (x : Built) → length parts ≤ i → added (map (named_part text) (drop i parts)) x ≡ x
-parts_end text parts i x past = ap (λ more. added (map (named_part text) more) x) (drop_all i parts past) ∙ added_none x
+pub added_end : (text : List ℕ) (sections : List AsmSection) (i : ℕ) (x : Built) → length sections ≤ i → added (map (named_section text) (drop i sections)) x ≡ x
+added_end text sections i x past = ap (λ more. added (map (named_section text) more) x) (drop_all i sections past) ∙ added_none x
 
-pub relas_cons : (text numbers : List ℕ) (symtab number : ℕ) (p : Part) (parts : List Part) → named_relas text numbers symtab number (p ∷ parts) ≡ named_relas text numbers symtab number (p ∷ []) ++ named_relas text numbers symtab (number + 1) parts
-relas_cons text numbers symtab number p parts = either (has_entries p) refl
+pub relas_cons : (text numbers : List ℕ) (symtab number : ℕ) (p : AsmSection) (sections : List AsmSection) → named_relas text numbers symtab number (p ∷ sections) ≡ named_relas text numbers symtab number (p ∷ []) ++ named_relas text numbers symtab (number + 1) sections
+relas_cons text numbers symtab number p sections = either (has_entries p) refl
   where
-    either : (b : Bool) → has_entries p ≡ b → named_relas text numbers symtab number (p ∷ parts) ≡ named_relas text numbers symtab number (p ∷ []) ++ named_relas text numbers symtab (number + 1) parts
+    either : (b : Bool) → has_entries p ≡ b → named_relas text numbers symtab number (p ∷ sections) ≡ named_relas text numbers symtab number (p ∷ []) ++ named_relas text numbers symtab (number + 1) sections
     either true is = rw is refl
     either false is = rw is refl
 
-pub relas_at : (text numbers : List ℕ) (symtab number : ℕ) (parts : List Part) (i : ℕ) (d : Part) (x : Built) → i < length parts → added (named_relas text numbers symtab number (drop i parts)) x ≡ added (named_relas text numbers symtab (number + 1) (drop (i + 1) parts)) (added (named_relas text numbers symtab number (get_or parts i d ∷ [])) x)
-relas_at text numbers symtab number parts i d x inside =
-    ap (λ more. added (named_relas text numbers symtab number more) x) (drop_more parts i d inside)
-    ∙ ap (λ more. added more x) (relas_cons text numbers symtab number (get_or parts i d) (drop (i + 1) parts))
-    ∙ added_append (named_relas text numbers symtab number (get_or parts i d ∷ [])) (named_relas text numbers symtab (number + 1) (drop (i + 1) parts)) x
+pub relas_at : (text numbers : List ℕ) (symtab number : ℕ) (sections : List AsmSection) (i : ℕ) (d : AsmSection) (x : Built) → i < length sections → added (named_relas text numbers symtab number (drop i sections)) x ≡ added (named_relas text numbers symtab (number + 1) (drop (i + 1) sections)) (added (named_relas text numbers symtab number (get_or sections i d ∷ [])) x)
+relas_at text numbers symtab number sections i d x inside =
+    ap (λ more. added (named_relas text numbers symtab number more) x) (drop_more sections i d inside)
+    ∙ ap (λ more. added more x) (relas_cons text numbers symtab number (get_or sections i d) (drop (i + 1) sections))
+    ∙ added_append (named_relas text numbers symtab number (get_or sections i d ∷ [])) (named_relas text numbers symtab (number + 1) (drop (i + 1) sections)) x
 
-pub relas_end : (text numbers : List ℕ) (symtab number : ℕ) (parts : List Part) (i : ℕ) (x : Built) → length parts ≤ i → added (named_relas text numbers symtab number (drop i parts)) x ≡ x
-relas_end text numbers symtab number parts i x past =
-    ap (λ more. added (named_relas text numbers symtab number more) x) (drop_all i parts past) ∙ added_none x
+pub relas_end : (text numbers : List ℕ) (symtab number : ℕ) (sections : List AsmSection) (i : ℕ) (x : Built) → length sections ≤ i → added (named_relas text numbers symtab number (drop i sections)) x ≡ x
+relas_end text numbers symtab number sections i x past =
+    ap (λ more. added (named_relas text numbers symtab number more) x) (drop_all i sections past) ∙ added_none x
 
 -- all sections, one group behind the other
-pub added_all : (text : List ℕ) (parts : List Part) (symbols : List Symbol) (x : Built) → added (named_sections text parts symbols) x ≡ added (named_strtab text symbols ∷ []) (added (named_symtab text parts symbols ∷ []) (added (named_relas text (symbol_numbers (length parts) symbols) (symtab_of parts) 1 parts) (added (map (named_part text) parts) x)))
+pub added_all : (text : List ℕ) (sections : List AsmSection) (symbols : List Symbol) (x : Built) → added (named_sections text sections symbols) x ≡ added (named_strtab text symbols ∷ []) (added (named_symtab text sections symbols ∷ []) (added (named_relas text (symbol_numbers (length sections) symbols) (symtab_of sections) 1 sections) (added (map (named_section text) sections) x)))
 unfolding named_sections
-added_all text parts symbols x =
-    let a = map (named_part text) parts in
-    let b = named_relas text (symbol_numbers (length parts) symbols) (symtab_of parts) 1 parts in
-    let c = named_symtab text parts symbols in
+added_all text sections symbols x =
+    let a = map (named_section text) sections in
+    let b = named_relas text (symbol_numbers (length sections) symbols) (symtab_of sections) 1 sections in
+    let c = named_symtab text sections symbols in
     let d = named_strtab text symbols in
     added_append a (b ++ (c ∷ d ∷ [])) x
     ∙ added_append b (c ∷ d ∷ []) (added a x)

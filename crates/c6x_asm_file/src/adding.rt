@@ -1,36 +1,36 @@
 ghost use Rattle.std.specs.Prelude.{◌≡◌, ◌≤◌, [], ◌∷◌, count_by, length, map, OnOk};
-ghost use Rattle.c6x_asm_form.specs.Filing.{has_entries, named_part, named_relas};
+ghost use Rattle.c6x_asm_form.specs.Filing.{has_entries, named_section, named_relas};
 ghost use Rattle.c6x_asm_file.specs.Adding.{added};
 
-use crate::headers::{TableKind, part_section, table_section};
+use crate::headers::{TableKind, section_header, table_section};
 use crate::relocating::relocation_table;
 use crate::section_table::SectionTable;
 use c6x_asm_lines::bytes_at;
-use c6x_asm_object::Part;
+use c6x_asm_object::AsmSection;
 use std::alloc::{AllocError, Global};
 
 /// The named sections.
-#[tactic(auto, using(crate::proofs::Adds::parts_at, crate::proofs::Adds::parts_end))]
-pub fn add_parts(
+#[tactic(auto, using(crate::proofs::Adds::added_at, crate::proofs::Adds::added_end))]
+pub fn add_named_sections(
     alloc: Global,
     text: &[u8],
-    parts: &[Part],
+    sections: &[AsmSection],
     table: &mut SectionTable,
 ) -> Result<(), AllocError>
-    ensures { OnOk result (table.new ≡ added (map (named_part text.now) parts.now) table.old) }
+    ensures { OnOk result (table.new ≡ added (map (named_section text.now) sections.now) table.old) }
 {
-    for part in parts {
-        let section = part_section(alloc, part)?;
-        table.add(&[], bytes_at(text, part.at, part.len), section)?;
+    for section in sections {
+        let header = section_header(alloc, section)?;
+        table.add(&[], bytes_at(text, section.at, section.len), header)?;
     }
     Ok(())
 }
 
 /// Whether a section has relocations.
-pub fn has_entries(part: &Part) -> bool
-    ensures { result ≡ has_entries part.now }
+pub fn has_entries(section: &AsmSection) -> bool
+    ensures { result ≡ has_entries section.now }
 {
-    !part.entries.as_slice().is_empty()
+    !section.entries.as_slice().is_empty()
 }
 
 // The relocation table of the section with this number, if it has relocations.
@@ -41,15 +41,15 @@ fn add_rela(
     numbers: &[usize],
     symtab: usize,
     number: usize,
-    part: &Part,
+    section: &AsmSection,
     table: &mut SectionTable,
 ) -> Result<(), AllocError>
-    ensures { OnOk result (table.new ≡ added (named_relas text.now numbers.now symtab number (part.now ∷ [])) table.old) }
+    ensures { OnOk result (table.new ≡ added (named_relas text.now numbers.now symtab number (section.now ∷ [])) table.old) }
 {
-    if !has_entries(part) {
+    if !has_entries(section) {
         return Ok(());
     }
-    let bytes = relocation_table(alloc, numbers, part.entries.as_slice())?;
+    let bytes = relocation_table(alloc, numbers, section.entries.as_slice())?;
     let kind = TableKind {
         kind: 4,
         link: symtab,
@@ -57,8 +57,8 @@ fn add_rela(
         align: 4,
         entsize: 12,
     };
-    let section = table_section(alloc, kind, bytes.as_slice())?;
-    table.add(b".rela", bytes_at(text, part.at, part.len), section)
+    let header = table_section(alloc, kind, bytes.as_slice())?;
+    table.add(b".rela", bytes_at(text, section.at, section.len), header)
 }
 
 /// The relocation tables of the named sections.
@@ -68,23 +68,23 @@ pub fn add_relas(
     text: &[u8],
     numbers: &[usize],
     symtab: usize,
-    parts: &[Part],
+    sections: &[AsmSection],
     table: &mut SectionTable,
 ) -> Result<(), AllocError>
-    ensures { OnOk result (table.new ≡ added (named_relas text.now numbers.now symtab 1 parts.now) table.old) }
+    ensures { OnOk result (table.new ≡ added (named_relas text.now numbers.now symtab 1 sections.now) table.old) }
 {
     let mut number = 1;
-    for part in parts {
-        add_rela(alloc, text, numbers, symtab, number, part, table)?;
+    for section in sections {
+        add_rela(alloc, text, numbers, symtab, number, section, table)?;
         number += 1;
     }
     Ok(())
 }
 
 /// How many sections have relocations.
-pub fn count_relas(parts: &[Part]) -> usize
-    ensures is { result ≡ count_by has_entries parts.now }
-    ensures few { result ≤ length parts.now }
+pub fn count_relas(sections: &[AsmSection]) -> usize
+    ensures is { result ≡ count_by has_entries sections.now }
+    ensures few { result ≤ length sections.now }
 {
-    parts.iter().filter(|part| has_entries(part)).count()
+    sections.iter().filter(|section| has_entries(section)).count()
 }

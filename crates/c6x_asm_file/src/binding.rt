@@ -1,15 +1,15 @@
 ghost use Rattle.std.specs.Prelude.{◌≡◌, ◌≤◌};
-ghost use Rattle.c6x_asm_form.specs.Bindings.{is_shared, binding, is_local, visibility, spot_or_none};
+ghost use Rattle.c6x_asm_form.specs.Bindings.{is_shared, binding, is_local, visibility, definition_or_none};
 ghost use Rattle.c6x_asm_file.specs.Names.{is_in};
 
-use c6x_asm_object::{Spot, Symbol};
+use c6x_asm_object::{Definition, Symbol};
 
-fn is_shared(spot: Option<Spot>) -> bool
-    ensures { result ≡ is_shared spot }
+fn is_shared(definition: Option<Definition>) -> bool
+    ensures { result ≡ is_shared definition }
 {
-    match spot {
+    match definition {
         None => true,
-        Some(spot) => spot.section == 0xFFF2 || spot.section == 0xFF00,
+        Some(definition) => definition.section == 0xFFF2 || definition.section == 0xFF00,
     }
 }
 
@@ -21,7 +21,7 @@ pub fn binding(symbol: Symbol) -> u8
 {
     if symbol.weak {
         2
-    } else if symbol.global || is_shared(symbol.spot) {
+    } else if symbol.global || is_shared(symbol.definition) {
         1
     } else {
         0
@@ -54,15 +54,15 @@ pub fn visibility(symbol: Symbol) -> u8
 }
 
 /// The place of a symbol, which is section 0 where it has none.
-pub fn spot_or_none(spot: Option<Spot>) -> Spot
-    ensures { result ≡ spot_or_none spot }
+pub fn definition_or_none(definition: Option<Definition>) -> Definition
+    ensures { result ≡ definition_or_none definition }
 {
-    match spot {
-        None => Spot {
+    match definition {
+        None => Definition {
             section: 0,
             value: 0,
             size: 0,
         },
-        Some(spot) => spot,
+        Some(definition) => definition,
     }
 }

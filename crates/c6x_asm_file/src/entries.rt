@@ -3,14 +3,14 @@ ghost use Rattle.c6x_asm_form.specs.Symbols.{entry_row, symbol_row, symbol_rows,
 ghost use Rattle.c6x_asm_object.specs.Symbols.{names_total};
 ghost use Rattle.c6x_asm_file.specs.Names.{group};
 
-use crate::binding::{binding, is_in, spot_or_none, visibility};
+use crate::binding::{binding, is_in, definition_or_none, visibility};
 use c6x_asm_lines::bytes_at;
 use c6x_asm_object::{Items, Symbol};
 use std::alloc::{AllocError, Global};
 
 // The numbers of an entry but for the name.
 #[derive(Clone, Copy)]
-struct Entry {
+struct SymbolEntry {
     value: u32,
     size: u32,
     info: u8,
@@ -19,7 +19,7 @@ struct Entry {
 }
 
 #[tactic(auto, using(crate::proofs::Names::row_put))]
-fn put_entry(bytes: &mut Items<u8>, name: u32, entry: &Entry) -> Result<(), AllocError>
+fn put_entry(bytes: &mut Items<u8>, name: u32, entry: &SymbolEntry) -> Result<(), AllocError>
     ensures { OnOk result (bytes.new ≡ bytes.old ++ entry_row name entry.now.value entry.now.size entry.now.info entry.now.other entry.now.section) }
 {
     bytes.extend(&name.to_le_bytes())?;
@@ -32,13 +32,13 @@ fn put_entry(bytes: &mut Items<u8>, name: u32, entry: &Entry) -> Result<(), Allo
 fn put_symbol(bytes: &mut Items<u8>, name: u32, symbol: Symbol) -> Result<(), AllocError>
     ensures { OnOk result (bytes.new ≡ bytes.old ++ symbol_row name symbol) }
 {
-    let spot = spot_or_none(symbol.spot);
-    let entry = Entry {
-        value: spot.value,
-        size: spot.size,
+    let definition = definition_or_none(symbol.definition);
+    let entry = SymbolEntry {
+        value: definition.value,
+        size: definition.size,
         info: 16 * binding(symbol),
         other: visibility(symbol),
-        section: spot.section,
+        section: definition.section,
     };
     put_entry(bytes, name, &entry)
 }
@@ -91,7 +91,7 @@ fn put_sections(bytes: &mut Items<u8>, count: usize) -> Result<(), AllocError>
     ensures { OnOk result (bytes.new ≡ bytes.old ++ section_rows 1 count) }
 {
     for i in 0..count {
-        let entry = Entry {
+        let entry = SymbolEntry {
             value: 0,
             size: 0,
             info: 3,
@@ -116,7 +116,7 @@ pub fn symbol_table(
     ensures { IfOk result (λ bytes. bytes ≡ symbol_table text.now sections symbols.now) }
 {
     let mut bytes = Items::new(alloc);
-    let null = Entry {
+    let null = SymbolEntry {
         value: 0,
         size: 0,
         info: 0,

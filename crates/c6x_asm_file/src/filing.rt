@@ -3,31 +3,31 @@ ghost use Rattle.c6x_asm_form.specs.Filing.{symtab_of, named_sections, named_str
 ghost use Rattle.c6x_asm_object.specs.Symbols.{names_total};
 ghost use Rattle.c6x_asm_file.specs.Adding.{added};
 
-use crate::adding::{add_parts, add_relas, count_relas};
+use crate::adding::{add_named_sections, add_relas, count_relas};
 use crate::entries::symbol_table;
 use crate::headers::{STRINGS, TableKind, table_section};
 use crate::numbering::{count_local, symbol_numbers};
 use crate::section_table::SectionTable;
 use crate::strings::name_table;
-use c6x_asm_object::{Part, Symbol};
+use c6x_asm_object::{AsmSection, Symbol};
 use c6x_base::Row;
 use c6x_elf::File;
 use std::alloc::{AllocError, Global};
 
-fn symtab_of(parts: &[Part]) -> usize
-    requires { length parts.now < 2 ^ 31 }
-    ensures is { result ≡ symtab_of parts.now }
+fn symtab_of(sections: &[AsmSection]) -> usize
+    requires { length sections.now < 2 ^ 31 }
+    ensures is { result ≡ symtab_of sections.now }
     ensures few { result < 2 ^ 32 }
 {
-    1 + parts.len() + count_relas(parts)
+    1 + sections.len() + count_relas(sections)
 }
 
 // The number of the names of the sections, behind `.symtab` and `.strtab`.
-fn names_number(parts: &[Part]) -> u16
-    requires { length parts.now < 2 ^ 31 }
-    ensures { result ≡ (symtab_of parts.now + 2) % 65536 }
+fn names_number(sections: &[AsmSection]) -> u16
+    requires { length sections.now < 2 ^ 31 }
+    ensures { result ≡ (symtab_of sections.now + 2) % 65536 }
 {
-    ((symtab_of(parts) + 2) % 65_536) as u16
+    ((symtab_of(sections) + 2) % 65_536) as u16
 }
 
 // The symbol table.
@@ -35,19 +35,19 @@ fn names_number(parts: &[Part]) -> u16
 fn add_symtab(
     alloc: Global,
     text: &[u8],
-    parts: &[Part],
+    sections: &[AsmSection],
     symbols: &[Symbol],
     table: &mut SectionTable,
 ) -> Result<(), AllocError>
-    requires few { length parts.now < 2 ^ 31 }
+    requires few { length sections.now < 2 ^ 31 }
     requires names { 1 + names_total text.now symbols.now < 2 ^ 32 }
-    ensures { OnOk result (table.new ≡ added (named_symtab text.now parts.now symbols.now ∷ []) table.old) }
+    ensures { OnOk result (table.new ≡ added (named_symtab text.now sections.now symbols.now ∷ []) table.old) }
 {
-    let bytes = symbol_table(alloc, text, parts.len(), symbols)?;
+    let bytes = symbol_table(alloc, text, sections.len(), symbols)?;
     let kind = TableKind {
         kind: 2,
-        link: symtab_of(parts) + 1,
-        info: 1 + parts.len() + count_local(symbols),
+        link: symtab_of(sections) + 1,
+        info: 1 + sections.len() + count_local(symbols),
         align: 4,
         entsize: 16,
     };
@@ -75,19 +75,19 @@ fn add_strtab(
 fn add_sections(
     alloc: Global,
     text: &[u8],
-    parts: &[Part],
+    sections: &[AsmSection],
     symbols: &[Symbol],
     table: &mut SectionTable,
 ) -> Result<(), AllocError>
-    requires few { length parts.now < 2 ^ 31 }
+    requires few { length sections.now < 2 ^ 31 }
     requires names { 1 + names_total text.now symbols.now < 2 ^ 32 }
-    ensures { OnOk result (table.new ≡ added (named_sections text.now parts.now symbols.now) table.old) }
+    ensures { OnOk result (table.new ≡ added (named_sections text.now sections.now symbols.now) table.old) }
 {
-    let numbers = symbol_numbers(alloc, parts.len(), symbols)?;
-    let symtab = symtab_of(parts);
-    add_parts(alloc, text, parts, table)?;
-    add_relas(alloc, text, numbers.as_slice(), symtab, parts, table)?;
-    add_symtab(alloc, text, parts, symbols, table)?;
+    let numbers = symbol_numbers(alloc, sections.len(), symbols)?;
+    let symtab = symtab_of(sections);
+    add_named_sections(alloc, text, sections, table)?;
+    add_relas(alloc, text, numbers.as_slice(), symtab, sections, table)?;
+    add_symtab(alloc, text, sections, symbols, table)?;
     add_strtab(alloc, text, symbols, table)
 }
 
@@ -96,20 +96,20 @@ fn add_sections(
 pub fn file_of(
     alloc: Global,
     text: &[u8],
-    parts: &[Part],
+    sections: &[AsmSection],
     symbols: &[Symbol],
 ) -> Result<File, AllocError>
-    requires few { length parts.now < 2 ^ 31 }
+    requires few { length sections.now < 2 ^ 31 }
     requires names { 1 + names_total text.now symbols.now < 2 ^ 32 }
-    ensures { IfOk result (λ file. file ≡ file_of text.now parts.now symbols.now) }
+    ensures { IfOk result (λ file. file ≡ file_of text.now sections.now symbols.now) }
 {
     let mut table = SectionTable::new(alloc)?;
-    add_sections(alloc, text, parts, symbols, &mut table)?;
+    add_sections(alloc, text, sections, symbols, &mut table)?;
     Ok(File {
         kind: 1,
         entry: 0,
         flags: 0,
-        names: names_number(parts),
+        names: names_number(sections),
         segments: Row::of(Vec::new(alloc)),
         sections: Row::of(table.finish(alloc)?),
     })

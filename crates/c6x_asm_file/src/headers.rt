@@ -1,45 +1,45 @@
 ghost use Rattle.std.specs.Prelude.{◌≡◌, ◌^◌, ◌<◌, length, IfOk};
-ghost use Rattle.c6x_asm_form.specs.Headers.{part_type, part_flags, part_section, table_section, null_section};
+ghost use Rattle.c6x_asm_form.specs.Headers.{section_type, section_flags, section_header, table_section, null_section};
 
-use c6x_asm_object::{Part, PartKind};
+use c6x_asm_object::{AsmSection, SectionKind};
 use c6x_base::Bytes;
 use c6x_elf::Section;
 use std::alloc::{AllocError, Global};
 
-fn part_type(kind: PartKind) -> u32
-    ensures { result ≡ part_type kind }
+fn section_type(kind: SectionKind) -> u32
+    ensures { result ≡ section_type kind }
 {
     match kind {
-        PartKind::Zero => 8,
+        SectionKind::Zero => 8,
         _ => 1,
     }
 }
 
-fn part_flags(kind: PartKind) -> u32
-    ensures { result ≡ part_flags kind }
+fn section_flags(kind: SectionKind) -> u32
+    ensures { result ≡ section_flags kind }
 {
     match kind {
-        PartKind::Text => 6,
-        PartKind::Constant => 2,
-        PartKind::Zero | PartKind::Data => 3,
+        SectionKind::Text => 6,
+        SectionKind::Constant => 2,
+        SectionKind::Zero | SectionKind::Data => 3,
     }
 }
 
-/// The section of a part, without its name.
-#[tactic(auto, unfolding(c6x_asm_form::specs::Headers::part_section))]
-pub fn part_section(alloc: Global, part: &Part) -> Result<Section, AllocError>
-    ensures { IfOk result (λ section. section ≡ part_section part.now) }
+/// The header of a section of the text, whose name is not said yet, and its bytes.
+#[tactic(auto, unfolding(c6x_asm_form::specs::Headers::section_header))]
+pub fn section_header(alloc: Global, section: &AsmSection) -> Result<Section, AllocError>
+    ensures { IfOk result (λ header. header ≡ section_header section.now) }
 {
-    let bytes = Bytes::from_bytes(alloc, part.bytes.as_slice())?;
+    let bytes = Bytes::from_bytes(alloc, section.bytes.as_slice())?;
     Ok(Section {
         name: 0,
-        kind: part_type(part.kind),
-        flags: part_flags(part.kind),
+        kind: section_type(section.kind),
+        flags: section_flags(section.kind),
         addr: 0,
-        size: part.size,
+        size: section.size,
         link: 0,
         info: 0,
-        align: part.align,
+        align: section.align,
         entsize: 0,
         bytes,
     })

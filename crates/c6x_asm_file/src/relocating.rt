@@ -2,7 +2,7 @@ ghost use Rattle.std.specs.Prelude.{◌≡◌, ◌++◌, IfOk, OnOk};
 ghost use Rattle.c6x_asm_form.specs.Relocations.{number_at, info_of, relocation_row, relocation_rows};
 
 use crate::kinds::kind_number;
-use c6x_asm_object::{Entry, Items};
+use c6x_asm_object::{RelocEntry, Items};
 use std::alloc::{AllocError, Global};
 
 fn number_at(numbers: &[usize], symbol: Option<usize>) -> usize
@@ -21,7 +21,7 @@ fn info_of(symbol: usize, kind: u8) -> u32
 }
 
 #[tactic(auto, using(crate::proofs::Rows::row_put))]
-fn put_relocation(numbers: &[usize], bytes: &mut Items<u8>, entry: Entry) -> Result<(), AllocError>
+fn put_relocation(numbers: &[usize], bytes: &mut Items<u8>, entry: RelocEntry) -> Result<(), AllocError>
     ensures { OnOk result (bytes.new ≡ bytes.old ++ relocation_row numbers.now entry) }
 {
     let info = info_of(number_at(numbers, entry.symbol), kind_number(entry.kind));
@@ -35,7 +35,7 @@ fn put_relocation(numbers: &[usize], bytes: &mut Items<u8>, entry: Entry) -> Res
 pub fn relocation_table(
     alloc: Global,
     numbers: &[usize],
-    entries: &[Entry],
+    entries: &[RelocEntry],
 ) -> Result<Items<u8>, AllocError>
     ensures { IfOk result (λ bytes. bytes ≡ relocation_rows numbers.now entries.now) }
 {

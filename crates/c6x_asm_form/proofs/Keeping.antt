@@ -4,45 +4,45 @@ use Rattle.std.specs.Prelude.{codes, count_by}
 use Rattle.std.proofs.lemmas.Bool.Decides.{nat_tests}
 use Rattle.c6x_elf.specs.Entries.{symbols_in, text_of}
 use Rattle.c6x_elf.specs.declared.section.Section.{Section}
-use Rattle.c6x_asm_object.specs.declared.entry.Entry.{Entry}
-use Rattle.c6x_asm_object.specs.declared.part.Part.{Part}
+use Rattle.c6x_asm_object.specs.declared.reloc_entry.RelocEntry.{RelocEntry}
+use Rattle.c6x_asm_object.specs.declared.asm_section.AsmSection.{AsmSection}
 use Rattle.c6x_asm_object.specs.declared.symbol.Symbol.{Symbol}
 use Rattle.c6x_asm_form.specs.Bindings.{is_local}
-use Rattle.c6x_asm_form.specs.Filing.{Named, has_entries, named_part, named_rela, named_relas, named_shstrtab, named_strtab, named_symtab, names_of, symtab_of}
+use Rattle.c6x_asm_form.specs.Filing.{Named, has_entries, named_section, named_rela, named_relas, named_shstrtab, named_strtab, named_symtab, names_of, symtab_of}
 use Rattle.c6x_asm_form.specs.Headers.{table_section}
 use Rattle.c6x_asm_form.specs.Relocations.{number_at, relocation_rows}
-use Rattle.c6x_asm_object.specs.Sound.{AreSound, IsEntrySound, IsPartSound, IsSymbolSound}
+use Rattle.c6x_asm_object.specs.Sound.{AreSound, IsEntrySound, IsSectionSound, IsSymbolSound}
 use Rattle.c6x_asm_form.specs.Symbols.{name_table, symbol_numbers, symbol_table}
 use Rattle.c6x_asm_form.proofs.Lengths.{length-symbol_table}
 use Rattle.c6x_asm_form.proofs.Limited.{IsShort}
 use Rattle.c6x_asm_form.proofs.Lists.{Each, each_append, each_back, each_front, each_of, each_weaken}
-use Rattle.c6x_asm_form.proofs.Places.{arranged, every, length-sections_all, of_parts, of_relas, of_tables, sections_all, strtab_text, symtab_text}
+use Rattle.c6x_asm_form.proofs.Places.{arranged, every, length-sections_all, of_sections, of_relas, of_tables, sections_all, strtab_text, symtab_text}
 use Rattle.c6x_asm_form.proofs.RelocationEntries.{entry_below}
-use Rattle.c6x_asm_form.proofs.Tables.{Keeps, part_keeps, relas_keep, strings_keep, symbols_keep, table_bytes}
+use Rattle.c6x_asm_form.proofs.Tables.{Keeps, section_keeps, relas_keep, strings_keep, symbols_keep, table_bytes}
 
 abbrev pub KeepsNamed : List Section → Named → Type 0
 KeepsNamed all n = Keeps (length all) all n.section
 
 -- the sections of the text
-parts_keep : (all : List Section) (text : List ℕ) (count : ℕ) (ps : List Part) → Each (IsPartSound count) ps → Each (KeepsNamed all) (map (named_part text) ps)
-parts_keep all text count [] sound = tt
-parts_keep all text count (p ∷ ps) sound = (part_keeps (length all) count all p sound.0, parts_keep all text count ps sound.1)
+sections_keep : (all : List Section) (text : List ℕ) (count : ℕ) (ps : List AsmSection) → Each (IsSectionSound count) ps → Each (KeepsNamed all) (map (named_section text) ps)
+sections_keep all text count [] sound = tt
+sections_keep all text count (p ∷ ps) sound = (section_keeps (length all) count all p sound.0, sections_keep all text count ps sound.1)
 
 -- a table of relocations, if there is one
 keeps_if : (t : Bool) (P Q : Named → Type 0) (here : Named) (later : List Named) → (Q here → P here) → (Each Q later → Each P later) → Each Q (cond t (here ∷ later) later) → Each P (cond t (here ∷ later) later)
 keeps_if true P Q here later first rest each = (first each.0, rest each.1)
 keeps_if false P Q here later first rest each = rest each
 
-rela_keeps : (all : List Section) (text numbers : List ℕ) (symtab number count : ℕ) (p : Part) → length all ≤ 4096 → symtab < length all → number < length all → ((e : Entry) → IsEntrySound count e → number_at numbers e.symbol < symbols_in all symtab) → IsPartSound count p → IsShort (named_rela text numbers symtab number p) → KeepsNamed all (named_rela text numbers symtab number p)
+rela_keeps : (all : List Section) (text numbers : List ℕ) (symtab number count : ℕ) (p : AsmSection) → length all ≤ 4096 → symtab < length all → number < length all → ((e : RelocEntry) → IsEntrySound count e → number_at numbers e.symbol < symbols_in all symtab) → IsSectionSound count p → IsShort (named_rela text numbers symtab number p) → KeepsNamed all (named_rela text numbers symtab number p)
 rela_keeps all text numbers symtab number count p most linked inside known sound short =
     let bytes = relocation_rows numbers p.entries in
     let same : length (table_section 4 symtab number 4 12 bytes).bytes ≡ length bytes = ap length (table_bytes 4 symtab number 4 12 bytes) in
     let few : length (table_section 4 symtab number 4 12 bytes).bytes ≤ 1048576 = short.bytes in
     relas_keep all symtab number numbers p.entries most linked inside (omega arith)
-    (each_weaken (IsEntrySound count) (λ (e : Entry). number_at numbers e.symbol < symbols_in all symtab) p.entries known
+    (each_weaken (IsEntrySound count) (λ (e : RelocEntry). number_at numbers e.symbol < symbols_in all symtab) p.entries known
     (each_of (IsEntrySound count) p.entries sound.entries))
 
-relas_keeps : (all : List Section) (text numbers : List ℕ) (symtab number count : ℕ) (ps : List Part) → length all ≤ 4096 → symtab < length all → number + length ps ≤ length all → ((e : Entry) → IsEntrySound count e → number_at numbers e.symbol < symbols_in all symtab) → Each (IsPartSound count) ps → Each IsShort (named_relas text numbers symtab number ps) → Each (KeepsNamed all) (named_relas text numbers symtab number ps)
+relas_keeps : (all : List Section) (text numbers : List ℕ) (symtab number count : ℕ) (ps : List AsmSection) → length all ≤ 4096 → symtab < length all → number + length ps ≤ length all → ((e : RelocEntry) → IsEntrySound count e → number_at numbers e.symbol < symbols_in all symtab) → Each (IsSectionSound count) ps → Each IsShort (named_relas text numbers symtab number ps) → Each (KeepsNamed all) (named_relas text numbers symtab number ps)
 relas_keeps all text numbers symtab number count [] most linked inside known sound short = tt
 relas_keeps all text numbers symtab number count (p ∷ ps) most linked inside known sound short =
     keeps_if (has_entries p) (KeepsNamed all) IsShort (named_rela text numbers symtab number p)
@@ -51,7 +51,7 @@ relas_keeps all text numbers symtab number count (p ∷ ps) most linked inside k
     (relas_keeps all text numbers symtab (number + 1) count ps most linked (omega arith) known sound.1) short
 
 -- the three tables at the end
-symtab_keeps : (all : List Section) (text : List ℕ) (ps : List Part) (names : List Symbol) → length all ≤ 4096 → symtab_of ps + 1 < length all → length ps < length all → text_of all (symtab_of ps + 1) ≡ name_table text names → length (name_table text names) ≤ 1048576 → Each (IsSymbolSound (length ps)) names → IsShort (named_symtab text ps names) → KeepsNamed all (named_symtab text ps names)
+symtab_keeps : (all : List Section) (text : List ℕ) (ps : List AsmSection) (names : List Symbol) → length all ≤ 4096 → symtab_of ps + 1 < length all → length ps < length all → text_of all (symtab_of ps + 1) ≡ name_table text names → length (name_table text names) ≤ 1048576 → Each (IsSymbolSound (length ps)) names → IsShort (named_symtab text ps names) → KeepsNamed all (named_symtab text ps names)
 unfolding named_symtab
 symtab_keeps all text ps names most linked inside strings few sound short =
     let info = 1 + length ps + count_by is_local names in
@@ -88,30 +88,30 @@ symbols_are all symtab n bytes some is long =
     rw some count
 
 -- all sections but the null section
-pub every_keeps : (text : List ℕ) (ps : List Part) (names : List Symbol) → AreSound ps names → length (sections_all text ps names) ≤ 4096 → Each IsShort (every text ps names) → Each (KeepsNamed (sections_all text ps names)) (every text ps names)
+pub every_keeps : (text : List ℕ) (ps : List AsmSection) (names : List Symbol) → AreSound ps names → length (sections_all text ps names) ≤ 4096 → Each IsShort (every text ps names) → Each (KeepsNamed (sections_all text ps names)) (every text ps names)
 every_keeps text ps names sound most short =
     let all = sections_all text ps names in
-    let parts = of_parts text ps in
+    let sections = of_sections text ps in
     let relas = of_relas text ps names in
     let tables = of_tables text ps names in
     let count : length all ≡ symtab_of ps + 3 = length-sections_all text ps names in
-    let shorts : Each IsShort (parts ++ (relas ++ tables)) = subst (Each IsShort) (arranged text ps names) short in
-    let behind : Each IsShort (relas ++ tables) = each_back IsShort parts (relas ++ tables) shorts in
+    let shorts : Each IsShort (sections ++ (relas ++ tables)) = subst (Each IsShort) (arranged text ps names) short in
+    let behind : Each IsShort (relas ++ tables) = each_back IsShort sections (relas ++ tables) shorts in
     let last : Each IsShort tables = each_back IsShort relas tables behind in
     let some : (symtab_of ps == 0) ≡ false = grind (arith, nat_tests) in
     let has : symbols_in all (symtab_of ps) ≡ 1 + length ps + length names =
     symbols_are all (symtab_of ps) (1 + length ps + length names) (symbol_table text (length ps) names) some
     (symtab_text text ps names) (length-symbol_table text (length ps) names) in
-    let P : ℕ → Entry → Type 0 = λ n e. number_at (symbol_numbers (length ps) names) e.symbol < n in
-    let known : (e : Entry) → IsEntrySound (length names) e → number_at (symbol_numbers (length ps) names) e.symbol < symbols_in all (symtab_of ps) =
+    let P : ℕ → RelocEntry → Type 0 = λ n e. number_at (symbol_numbers (length ps) names) e.symbol < n in
+    let known : (e : RelocEntry) → IsEntrySound (length names) e → number_at (symbol_numbers (length ps) names) e.symbol < symbols_in all (symtab_of ps) =
     λ e there. subst (λ (n : ℕ). P n e) (sym has) (entry_below (length ps) names e there) in
-    let sound_parts : Each (IsPartSound (length names)) ps = each_of (IsPartSound (length names)) ps sound.parts in
+    let sound_sections : Each (IsSectionSound (length names)) ps = each_of (IsSectionSound (length names)) ps sound.sections in
     let sound_names : Each (IsSymbolSound (length ps)) names = each_of (IsSymbolSound (length ps)) names sound.symbols in
     let strings = strtab_short text names last.1.0 in
     subst (Each (KeepsNamed all)) (sym (arranged text ps names))
-    (each_append (KeepsNamed all) parts (relas ++ tables) (parts_keep all text (length names) ps sound_parts)
+    (each_append (KeepsNamed all) sections (relas ++ tables) (sections_keep all text (length names) ps sound_sections)
     (each_append (KeepsNamed all) relas tables
-    (relas_keeps all text (symbol_numbers (length ps) names) (symtab_of ps) 1 (length names) ps most (omega arith) (omega arith) known sound_parts
+    (relas_keeps all text (symbol_numbers (length ps) names) (symtab_of ps) 1 (length names) ps most (omega arith) (omega arith) known sound_sections
     (each_front IsShort relas tables behind)) (
       symtab_keeps all text ps names most (omega arith) (omega arith) (strtab_text text ps names) strings sound_names last.0,
       (strtab_keeps all text names strings, (names_keep all _ last.1.1.0, tt)),

@@ -5,8 +5,8 @@ use Rattle.std.specs.Prelude.{count_by, filter}
 use Rattle.std.proofs.lemmas.List.{length-take-le}
 use Rattle.std.proofs.lemmas.List.Filters.{length-filter_both}
 use Rattle.std.proofs.lemmas.List.Sums.{count_by-le-length, count_by_more_yes, length-filter, sum_by-cons, sum_by-take-le}
-use Rattle.c6x_asm_object.specs.declared.entry.Entry.{Entry}
-use Rattle.c6x_asm_object.specs.declared.part.Part.{Part}
+use Rattle.c6x_asm_object.specs.declared.reloc_entry.RelocEntry.{RelocEntry}
+use Rattle.c6x_asm_object.specs.declared.asm_section.AsmSection.{AsmSection}
 use Rattle.c6x_asm_object.specs.declared.symbol.Symbol.{Symbol}
 use Rattle.c6x_asm_form.specs.Bindings.{is_local, is_other}
 use Rattle.c6x_asm_form.specs.Filing.{Named, has_entries, named_rela, named_relas, sections_from}
@@ -52,11 +52,11 @@ length-symbol_table text sections symbols =
       length-ordered symbols,
     )
 
-pub length-relocation_row : (numbers : List ℕ) (e : Entry) → length (relocation_row numbers e) ≡ 12
+pub length-relocation_row : (numbers : List ℕ) (e : RelocEntry) → length (relocation_row numbers e) ≡ 12
 unfolding relocation_row
 length-relocation_row numbers e = refl
 
-pub length-relocation_rows : (numbers : List ℕ) (entries : List Entry) → length (relocation_rows numbers entries) ≡ 12 * length entries
+pub length-relocation_rows : (numbers : List ℕ) (entries : List RelocEntry) → length (relocation_rows numbers entries) ≡ 12 * length entries
 length-relocation_rows numbers [] = refl
 length-relocation_rows numbers (e ∷ entries) =
     length-append (relocation_row numbers e) (relocation_rows numbers entries)
@@ -71,7 +71,7 @@ relas_if : (t : Bool) (here : Named) (later : List Named) (count : ℕ) → leng
 relas_if true here later count is = omega arith
 relas_if false here later count is = omega arith
 
-pub length-named_relas : (text numbers : List ℕ) (symtab number : ℕ) (ps : List Part) → length (named_relas text numbers symtab number ps) ≡ count_by has_entries ps
+pub length-named_relas : (text numbers : List ℕ) (symtab number : ℕ) (ps : List AsmSection) → length (named_relas text numbers symtab number ps) ≡ count_by has_entries ps
 length-named_relas text numbers symtab number [] = refl
 length-named_relas text numbers symtab number (p ∷ ps) =
     relas_if (has_entries p) (named_rela text numbers symtab number p) (named_relas text numbers symtab (number + 1) ps) (count_by has_entries ps)

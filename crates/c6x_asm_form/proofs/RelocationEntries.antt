@@ -15,7 +15,7 @@ use Rattle.c6x_elf_layout.proofs.Passing.{must_is}
 use Rattle.c6x_elf.specs.Entries.{rela_refusal, relas_refusal, symbols_in}
 use Rattle.c6x_elf.specs.declared.section.Section.{Section}
 use Rattle.c6x_elf.proofs.Moves.{both_none}
-use Rattle.c6x_asm_object.specs.declared.entry.Entry.{Entry}
+use Rattle.c6x_asm_object.specs.declared.reloc_entry.RelocEntry.{RelocEntry}
 use Rattle.c6x_asm_object.specs.declared.symbol.Symbol.{Symbol}
 use Rattle.c6x_reloc.specs.declared.reloc_kind.RelocKind.{RelocKind}
 use Rattle.c6x_reloc.specs.declared.reloc_kind.RelocKind.TheVariants.{NONE, ABS32, ABS16, ABS8, PCR_S21, PCR_S12, PCR_S7, ABS_S16, ABS_L16, ABS_H16, SBR_U15_B, SBR_U15_H, SBR_U15_W, SBR_S16, SBR_L16_B, SBR_L16_H, SBR_L16_W, SBR_H16_B, SBR_H16_H, SBR_H16_W, SBR_GOT_U15_W, SBR_GOT_L16_W, SBR_GOT_H16_W, DSBT_INDEX, JUMP_SLOT, ALIGN, FPHEAD, NOCMP}
@@ -83,7 +83,7 @@ option_below sections symbols (Some i) there =
     let is = get_or-map-range_with_len (symbol_number sections symbols) 0 (length symbols) i i 0 below (zero-add i) in
     omega (arith, is, symbol_below sections symbols i below)
 
-pub entry_below : (sections : ℕ) (symbols : List Symbol) (e : Entry) → IsEntrySound (length symbols) e → number_at (symbol_numbers sections symbols) e.symbol < 1 + sections + length symbols
+pub entry_below : (sections : ℕ) (symbols : List Symbol) (e : RelocEntry) → IsEntrySound (length symbols) e → number_at (symbol_numbers sections symbols) e.symbol < 1 + sections + length symbols
 entry_below sections symbols e sound = option_below sections symbols e.symbol sound.there
 
 -- the number above the kind
@@ -93,7 +93,7 @@ info_fits symbol kind below = omega arith
 info_symbol : (symbol kind : ℕ) → kind < 256 → info_of symbol kind / 256 ≤ symbol
 info_symbol symbol kind below = omega arith
 
-info_read : (table : List ℕ) (at : ℕ) (numbers : List ℕ) (e : Entry) → Holds table at (relocation_row numbers e) → word_at false table (at + 4) ≡ info_of (number_at numbers e.symbol) (kind_number e.kind)
+info_read : (table : List ℕ) (at : ℕ) (numbers : List ℕ) (e : RelocEntry) → Holds table at (relocation_row numbers e) → word_at false table (at + 4) ≡ info_of (number_at numbers e.symbol) (kind_number e.kind)
 unfolding relocation_row
 info_read table at numbers e h =
     let info = info_of (number_at numbers e.symbol) (kind_number e.kind) in
@@ -104,7 +104,7 @@ info_read table at numbers e h =
 less_passes : (word info number count : ℕ) → word ≡ info → info ≤ number → number < count → nat_lt word count ≡ true
 less_passes word info number count is least below = grind (arith, nat_tests)
 
-entry_passes : (all : List Section) (head : SectionHead) (table : List ℕ) (k : ℕ) (numbers : List ℕ) (e : Entry) → Holds table (12 * k) (relocation_row numbers e) → number_at numbers e.symbol < symbols_in all head.link → rela_refusal false all head table k ≡ None
+entry_passes : (all : List Section) (head : SectionHead) (table : List ℕ) (k : ℕ) (numbers : List ℕ) (e : RelocEntry) → Holds table (12 * k) (relocation_row numbers e) → number_at numbers e.symbol < symbols_in all head.link → rela_refusal false all head table k ≡ None
 unfolding rela_refusal
 entry_passes all head table k numbers e h below =
     let number = number_at numbers e.symbol in
@@ -114,7 +114,7 @@ entry_passes all head table k numbers e h below =
     must_is (nat_lt (word_at false table (12 * k + 4) / 256) (symbols_in all head.link)) Index (head.offset + 12 * k + 4)
     (less_passes (word_at false table (12 * k + 4) / 256) _ (number) (symbols_in all head.link) half least below)
 
-entries_along : (all : List Section) (head : SectionHead) (table : List ℕ) (k : ℕ) (numbers : List ℕ) (entries : List Entry) → Each (λ (e : Entry). number_at numbers e.symbol < symbols_in all head.link) entries → Holds table (12 * k) (relocation_rows numbers entries) → first_along (rela_refusal false all head table) (range_with_len k (length entries)) ≡ None
+entries_along : (all : List Section) (head : SectionHead) (table : List ℕ) (k : ℕ) (numbers : List ℕ) (entries : List RelocEntry) → Each (λ (e : RelocEntry). number_at numbers e.symbol < symbols_in all head.link) entries → Holds table (12 * k) (relocation_rows numbers entries) → first_along (rela_refusal false all head table) (range_with_len k (length entries)) ≡ None
 entries_along all head table k numbers [] below h = refl
 entries_along all head table k numbers (e ∷ entries) below h =
     let row = relocation_row numbers e in
@@ -127,7 +127,7 @@ entries_along all head table k numbers (e ∷ entries) below h =
 twelfth : (n : ℕ) → 12 * n / 12 ≡ n
 twelfth n = omega arith
 
-pub relocation_rows_pass : (all : List Section) (head : SectionHead) (numbers : List ℕ) (entries : List Entry) → Each (λ (e : Entry). number_at numbers e.symbol < symbols_in all head.link) entries → relas_refusal false all head (relocation_rows numbers entries) ≡ None
+pub relocation_rows_pass : (all : List Section) (head : SectionHead) (numbers : List ℕ) (entries : List RelocEntry) → Each (λ (e : RelocEntry). number_at numbers e.symbol < symbols_in all head.link) entries → relas_refusal false all head (relocation_rows numbers entries) ≡ None
 unfolding relas_refusal
 relocation_rows_pass all head numbers entries below =
     let table = relocation_rows numbers entries in

@@ -15,10 +15,10 @@ use Rattle.c6x_elf_layout.proofs.Passing.{must_is}
 use Rattle.c6x_elf.specs.Entries.{is_section_number, name_refusal, symbol_refusal, symbols_refusal, text_of}
 use Rattle.c6x_elf.specs.declared.section.Section.{Section}
 use Rattle.c6x_elf.proofs.Moves.{both_none}
-use Rattle.c6x_asm_object.specs.declared.spot.Spot.{Spot}
+use Rattle.c6x_asm_object.specs.declared.definition.Definition.{Definition}
 use Rattle.c6x_asm_object.specs.declared.symbol.Symbol.{Symbol}
-use Rattle.c6x_asm_form.specs.Bindings.{binding, is_local, is_other, spot_or_none, visibility}
-use Rattle.c6x_asm_object.specs.Sound.{IsSpotSound, IsSymbolSound}
+use Rattle.c6x_asm_form.specs.Bindings.{binding, is_local, is_other, definition_or_none, visibility}
+use Rattle.c6x_asm_object.specs.Sound.{IsDefinitionSound, IsSymbolSound}
 use Rattle.c6x_asm_form.specs.Symbols.{entry_row, name_rows, name_table, ordered, section_rows, symbol_row, symbol_rows, symbol_table}
 use Rattle.c6x_asm_form.proofs.Lengths.{length-entry_row, length-ordered, length-section_rows, length-symbol_table}
 use Rattle.c6x_asm_form.proofs.Lists.{Each, each_append, each_filter, first_append}
@@ -77,19 +77,19 @@ sections_along all head table strings k number (suc count) linked few has within
     (holds_right table (16 * k) row (section_rows (number + 1) count) (16 * (k + 1)) h (omega (arith, length-entry_row 0 0 0 3 0 number))))
 
 -- a sound place
-spot_number : (sections count : ℕ) (spot : Spot) → sections < count → count ≤ 4096 → IsSpotSound sections spot → is_section_number count (spot.section % 65536) ≡ true
-spot_number sections count spot below most (inl few) =
-    let is : spot.section % 65536 ≡ spot.section = omega arith in
-    ap (is_section_number count) is ∙ number_below count spot.section (omega arith)
-spot_number sections count spot below most (inr reserved) =
-    let from : 65280 ≤ spot.section = reserved.0 in
-    let to : spot.section < 65536 = reserved.1 in
-    let is : spot.section % 65536 ≡ spot.section = omega arith in
-    ap (is_section_number count) is ∙ number_reserved count spot.section from
+spot_number : (sections count : ℕ) (definition : Definition) → sections < count → count ≤ 4096 → IsDefinitionSound sections definition → is_section_number count (definition.section % 65536) ≡ true
+spot_number sections count definition below most (inl few) =
+    let is : definition.section % 65536 ≡ definition.section = omega arith in
+    ap (is_section_number count) is ∙ number_below count definition.section (omega arith)
+spot_number sections count definition below most (inr reserved) =
+    let from : 65280 ≤ definition.section = reserved.0 in
+    let to : definition.section < 65536 = reserved.1 in
+    let is : definition.section % 65536 ≡ definition.section = omega arith in
+    ap (is_section_number count) is ∙ number_reserved count definition.section from
 
-option_number : (sections count : ℕ) (spot : Option Spot) → sections < count → count ≤ 4096 → IfSome spot (IsSpotSound sections) → is_section_number count ((spot_or_none spot).section % 65536) ≡ true
+option_number : (sections count : ℕ) (definition : Option Definition) → sections < count → count ≤ 4096 → IfSome definition (IsDefinitionSound sections) → is_section_number count ((definition_or_none definition).section % 65536) ≡ true
 option_number sections count None below most sound = number_below count 0 (omega arith)
-option_number sections count (Some spot) below most sound = spot_number sections count spot below most sound
+option_number sections count (Some definition) below most sound = spot_number sections count definition below most sound
 
 -- the symbols of names
 symbols_along : (all : List Section) (head : SectionHead) (table strings text : List ℕ) (k at sections : ℕ) (symbols : List Symbol) → text_of all head.link ≡ strings → length strings < 2 ^ 32 → sections < length all → length all ≤ 4096 → Each (IsSymbolSound sections) symbols → Holds strings at (name_rows text symbols) → Holds table (16 * k) (symbol_rows text at symbols) → first_along (symbol_refusal false all head table) (range_with_len k (length symbols)) ≡ None
@@ -98,21 +98,21 @@ symbols_along all head table strings text k at sections (s ∷ symbols) linked f
     let name = symbol_name text s in
     let next = at + (length name + 1) in
     let row = symbol_row at s in
-    let spot = spot_or_none s.spot in
+    let definition = definition_or_none s.definition in
     let ends : at + length (name ++ (0 ∷ [])) ≡ next = ap (λ n. at + n) (length-append name (0 ∷ [])) in
     let P : List ℕ → Type 0 = λ xs. Holds strings at xs in
     let later : Holds strings at ((name ++ (0 ∷ [])) ++ name_rows text symbols) = subst P (sym (append_assoc name (0 ∷ []) (name_rows text symbols))) names in
     both_none (symbol_refusal false all head table k) (first_along (symbol_refusal false all head table) (range_with_len (k + 1) (length symbols)))
-    (entry_passes all head table strings k at spot.value spot.size (16 * binding s) (visibility s) spot.section linked few
+    (entry_passes all head table strings k at definition.value definition.size (16 * binding s) (visibility s) definition.section linked few
     (holds_left table (16 * k) row (symbol_rows text next symbols) h)
     (record {
       named = name_held strings at name (name_rows text symbols) names;
-      place = option_number sections (length all) s.spot below most sound.0.place;
+      place = option_number sections (length all) s.definition below most sound.0.place;
     }))
     (symbols_along all head table strings text (k + 1) next sections symbols linked few below most sound.1
     (holds_right strings at (name ++ (0 ∷ [])) (name_rows text symbols) next later ends)
     (holds_right table (16 * k) row (symbol_rows text next symbols) (16 * (k + 1)) h
-    (omega (arith, length-entry_row at spot.value spot.size (16 * binding s) (visibility s) spot.section))))
+    (omega (arith, length-entry_row at definition.value definition.size (16 * binding s) (visibility s) definition.section))))
 
 ordered_sound : (sections : ℕ) (symbols : List Symbol) → Each (IsSymbolSound sections) symbols → Each (IsSymbolSound sections) (ordered symbols)
 unfolding ordered

@@ -7,15 +7,15 @@ use Rattle.c6x_elf.specs.Form.{IsSized, own_head}
 use Rattle.c6x_elf.specs.Parts.{fields_refusal, has_bytes, has_entries, has_target, is_linked, is_relocation_table, is_symbol_table, section_size}
 use Rattle.c6x_elf.specs.Writing.{section_head_at}
 use Rattle.c6x_elf.specs.declared.section.Section.{Section}
-use Rattle.c6x_asm_object.specs.Parts.{is_zero}
-use Rattle.c6x_asm_object.specs.declared.entry.Entry.{Entry}
-use Rattle.c6x_asm_object.specs.declared.part.Part.{Part}
-use Rattle.c6x_asm_object.specs.declared.part_kind.PartKind.{PartKind}
-use Rattle.c6x_asm_object.specs.declared.part_kind.PartKind.TheVariants.{Text, Constant, Zero, Data}
+use Rattle.c6x_asm_object.specs.Sections.{is_zero}
+use Rattle.c6x_asm_object.specs.declared.reloc_entry.RelocEntry.{RelocEntry}
+use Rattle.c6x_asm_object.specs.declared.asm_section.AsmSection.{AsmSection}
+use Rattle.c6x_asm_object.specs.declared.section_kind.SectionKind.{SectionKind}
+use Rattle.c6x_asm_object.specs.declared.section_kind.SectionKind.TheVariants.{Text, Constant, Zero, Data}
 use Rattle.c6x_asm_object.specs.declared.symbol.Symbol.{Symbol}
-use Rattle.c6x_asm_form.specs.Headers.{null_section, part_section, part_type, table_section}
+use Rattle.c6x_asm_form.specs.Headers.{null_section, section_header, section_type, table_section}
 use Rattle.c6x_asm_form.specs.Relocations.{number_at, relocation_rows}
-use Rattle.c6x_asm_object.specs.Sound.{IsPartSound, IsSymbolSound}
+use Rattle.c6x_asm_object.specs.Sound.{IsSectionSound, IsSymbolSound}
 use Rattle.c6x_asm_form.specs.Symbols.{name_table, symbol_table}
 use Rattle.c6x_asm_form.proofs.Lengths.{length-relocation_rows, length-symbol_table}
 use Rattle.c6x_asm_form.proofs.Lists.{Each}
@@ -49,14 +49,14 @@ keeps_renamed count all name section keeps = record {
 }
 
 -- a section of the text
-part_sized : (kind : PartKind) (size : ℕ) (bytes : List ℕ) → (is_zero kind ≡ true → bytes ≡ []) → (is_zero kind ≡ false → length bytes ≡ size) → length bytes ≡ cond (has_bytes (part_type kind)) size 0
+section_sized : (kind : SectionKind) (size : ℕ) (bytes : List ℕ) → (is_zero kind ≡ true → bytes ≡ []) → (is_zero kind ≡ false → length bytes ≡ size) → length bytes ≡ cond (has_bytes (section_type kind)) size 0
 unfolding has_bytes
-part_sized Text size bytes zeros full = full refl
-part_sized Constant size bytes zeros full = full refl
-part_sized Zero size bytes zeros full = ap length (zeros refl)
-part_sized Data size bytes zeros full = full refl
+section_sized Text size bytes zeros full = full refl
+section_sized Constant size bytes zeros full = full refl
+section_sized Zero size bytes zeros full = ap length (zeros refl)
+section_sized Data size bytes zeros full = full refl
 
-plain_type : (kind : PartKind) → (is_symbol_table (part_type kind) ≡ false) × (is_relocation_table (part_type kind) ≡ false)
+plain_type : (kind : SectionKind) → (is_symbol_table (section_type kind) ≡ false) × (is_relocation_table (section_type kind) ≡ false)
 unfolding is_symbol_table is_relocation_table
 plain_type Text = (refl, refl)
 plain_type Constant = (refl, refl)
@@ -72,12 +72,12 @@ plain_entries : (all : List Section) (section : Section) → is_symbol_table sec
 unfolding entries_refusal section_head_at
 plain_entries all section symbols relas = rw (symbols, relas) refl
 
-pub part_keeps : (count names : ℕ) (all : List Section) (p : Part) → IsPartSound names p → Keeps count all (part_section p)
-unfolding part_section section_size section_head_at
-part_keeps count names all p sound = record {
-  sized = record { size = part_sized p.kind p.size p.bytes sound.zeros sound.full };
-  fields = plain_fields count (part_section p) (plain_type p.kind).0 (plain_type p.kind).1;
-  entries = plain_entries all (part_section p) (plain_type p.kind).0 (plain_type p.kind).1;
+pub section_keeps : (count names : ℕ) (all : List Section) (p : AsmSection) → IsSectionSound names p → Keeps count all (section_header p)
+unfolding section_header section_size section_head_at
+section_keeps count names all p sound = record {
+  sized = record { size = section_sized p.kind p.size p.bytes sound.zeros sound.full };
+  fields = plain_fields count (section_header p) (plain_type p.kind).0 (plain_type p.kind).1;
+  entries = plain_entries all (section_header p) (plain_type p.kind).0 (plain_type p.kind).1;
 }
 
 -- a number of a header
@@ -169,11 +169,11 @@ symbols_keep all link info text sections symbols most below inside linked names 
     }
 
 -- the relocations of a section
-pub relas_keep : (all : List Section) (link info : ℕ) (numbers : List ℕ) (entries : List Entry) → length all ≤ 4096 → link < length all → info < length all → length (relocation_rows numbers entries) < 4294967296 → Each (λ (e : Entry). number_at numbers e.symbol < symbols_in all link) entries → Keeps (length all) all (table_section 4 link info 4 12 (relocation_rows numbers entries))
+pub relas_keep : (all : List Section) (link info : ℕ) (numbers : List ℕ) (entries : List RelocEntry) → length all ≤ 4096 → link < length all → info < length all → length (relocation_rows numbers entries) < 4294967296 → Each (λ (e : RelocEntry). number_at numbers e.symbol < symbols_in all link) entries → Keeps (length all) all (table_section 4 link info 4 12 (relocation_rows numbers entries))
 relas_keep all link info numbers entries most below inside few sound =
     let bytes = relocation_rows numbers entries in
     let head = own_head (table_section 4 link info 4 12 bytes) in
-    let P : ℕ → Type 0 = λ l. Each (λ (e : Entry). number_at numbers e.symbol < symbols_in all l) entries in
+    let P : ℕ → Type 0 = λ l. Each (λ (e : RelocEntry). number_at numbers e.symbol < symbols_in all l) entries in
     record {
       sized = table_sized 4 link info 4 12 bytes (has_bytes_in 4 (omega arith) (omega arith)) few;
       fields = relas_fields (length all) link info bytes (less link (length all) below most) (less info (length all) inside most)

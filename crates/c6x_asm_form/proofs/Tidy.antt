@@ -14,7 +14,7 @@ use Rattle.c6x_elf.specs.Writing.{section_head_at, written_size}
 use Rattle.c6x_elf.specs.declared.file.File.{File}
 use Rattle.c6x_elf.specs.declared.section.Section.{Section}
 use Rattle.c6x_elf.proofs.Moves.{both_none}
-use Rattle.c6x_asm_object.specs.declared.part.Part.{Part}
+use Rattle.c6x_asm_object.specs.declared.asm_section.AsmSection.{AsmSection}
 use Rattle.c6x_asm_object.specs.declared.symbol.Symbol.{Symbol}
 use Rattle.c6x_asm_form.specs.Filing.{Named, file_of, named_sections, named_shstrtab, names_of, sections_from, sections_of, symtab_of}
 use Rattle.c6x_asm_form.specs.Headers.{null_section, table_section}
@@ -82,7 +82,7 @@ record AllKept (all : List Section) (names : ℕ) : Type 0 where
   fields : first_along (fields_refusal (length all)) (map own_head all) ≡ None
   entries : along_both (named_refusal false names all) (map own_head all) all ≡ None
 
-all_kept : (text : List ℕ) (ps : List Part) (names : List Symbol) → Each (KeepsNamed (sections_all text ps names)) (every text ps names) → length (names_of (every text ps names)) < 1048576 → AllKept (sections_all text ps names) (symtab_of ps + 2)
+all_kept : (text : List ℕ) (ps : List AsmSection) (names : List Symbol) → Each (KeepsNamed (sections_all text ps names)) (every text ps names) → length (names_of (every text ps names)) < 1048576 → AllKept (sections_all text ps names) (symtab_of ps + 2)
 all_kept text ps names keeps few =
     let all = sections_all text ps names in
     let named = every text ps names in
@@ -136,7 +136,7 @@ tidy_with names all below limits kept =
     }
 
 -- the names of the sections are short, as their table is
-names_short : (text : List ℕ) (ps : List Part) (names : List Symbol) → Each IsShort (every text ps names) → length (names_of (every text ps names)) < 1048576
+names_short : (text : List ℕ) (ps : List AsmSection) (names : List Symbol) → Each IsShort (every text ps names) → length (names_of (every text ps names)) < 1048576
 names_short text ps names short =
     let named = named_sections text ps names in
     let last = each_back IsShort named (the_names text ps names ∷ []) short in
@@ -145,7 +145,7 @@ names_short text ps names short =
     omega arith
 
 -- the limits leave only the last of the sections' numbers
-tidy_within : (text : List ℕ) (ps : List Part) (names : List Symbol) → AreSound ps names → IsLimited (file_with ((symtab_of ps + 2) % 65536) (sections_all text ps names)) → IsTidy false (file_with ((symtab_of ps + 2) % 65536) (sections_all text ps names))
+tidy_within : (text : List ℕ) (ps : List AsmSection) (names : List Symbol) → AreSound ps names → IsLimited (file_with ((symtab_of ps + 2) % 65536) (sections_all text ps names)) → IsTidy (file_with ((symtab_of ps + 2) % 65536) (sections_all text ps names))
 tidy_within text ps names sound limits =
     let all = sections_all text ps names in
     let most : length all ≤ 4096 = limits.count in
@@ -158,7 +158,7 @@ tidy_within text ps names sound limits =
     tidy_with ((symtab_of ps + 2) % 65536) all (omega arith) limits (subst (AllKept all) (sym number) kept)
 
 -- sound sections and symbols within the limits make a tidy file
-pub tidy : (text : List ℕ) (ps : List Part) (names : List Symbol) → AreSound ps names → is_large text ps names ≡ false → IsTidy false (file_of text ps names)
+pub tidy : (text : List ℕ) (ps : List AsmSection) (names : List Symbol) → AreSound ps names → is_large text ps names ≡ false → IsTidy (file_of text ps names)
 unfolding is_large file_of sections_of
 tidy text ps names sound small =
     tidy_within text ps names sound (limited (file_with ((symtab_of ps + 2) % 65536) (sections_all text ps names)) small)

@@ -4,7 +4,7 @@ use Rattle.std.specs.List.{list_any}
 use Rattle.c6x_elf.specs.declared.file.File.{File}
 use Rattle.c6x_elf.specs.declared.section.Section.{Section}
 use Rattle.c6x_elf.specs.Writing.{written_size}
-use Rattle.c6x_asm_object.specs.declared.part.Part.{Part}
+use Rattle.c6x_asm_object.specs.declared.asm_section.AsmSection.{AsmSection}
 use Rattle.c6x_asm_object.specs.declared.symbol.Symbol.{Symbol}
 use Rattle.c6x_asm_form.specs.Filing.{file_of}
 
@@ -16,5 +16,5 @@ is_long s = nat_lt 1048576 s.size || nat_lt 1048576 (length s.bytes)
 unfoldable pub passes_limit : File → Bool
 passes_limit file = nat_lt 4096 (length file.sections) || (list_any is_long file.sections || nat_lt 4194304 (written_size file))
 
-unfoldable pub is_large : List ℕ → List Part → List Symbol → Bool
-is_large text parts symbols = passes_limit (file_of text parts symbols)
+unfoldable pub is_large : List ℕ → List AsmSection → List Symbol → Bool
+is_large text sections symbols = passes_limit (file_of text sections symbols)

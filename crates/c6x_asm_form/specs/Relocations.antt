@@ -1,7 +1,7 @@
 -- The relocation table of a section (gABI chapter 4, "Relocation"; the kinds of SPRAB89, "Relocation Types").
 use Rattle.std.specs.Prelude.{ℕ, ◌+◌, ◌*◌, ◌%◌, List, [], ◌∷◌, ◌++◌, slice_index, Option, Some, None}
 use Rattle.std.specs.Int.{to_le_bytes, w32}
-use Rattle.c6x_asm_object.specs.declared.entry.Entry.{Entry}
+use Rattle.c6x_asm_object.specs.declared.reloc_entry.RelocEntry.{RelocEntry}
 use Rattle.c6x_reloc.specs.declared.reloc_kind.RelocKind.{RelocKind}
 use Rattle.c6x_reloc.specs.declared.reloc_kind.RelocKind.TheVariants.{NONE, ABS32, ABS16, ABS8, PCR_S21, PCR_S12, PCR_S7, ABS_S16, ABS_L16, ABS_H16, SBR_U15_B, SBR_U15_H, SBR_U15_W, SBR_S16, SBR_L16_B, SBR_L16_H, SBR_L16_W, SBR_H16_B, SBR_H16_H, SBR_H16_W, SBR_GOT_U15_W, SBR_GOT_L16_W, SBR_GOT_H16_W, DSBT_INDEX, JUMP_SLOT, ALIGN, FPHEAD, NOCMP}
 
@@ -45,11 +45,11 @@ abbrev pub info_of : ℕ → ℕ → ℕ
 info_of symbol kind = (symbol % 16777216) * 256 + kind
 
 -- an entry of 12 bytes
-unfoldable pub relocation_row : List ℕ → Entry → List ℕ
+unfoldable pub relocation_row : List ℕ → RelocEntry → List ℕ
 relocation_row numbers e =
     to_le_bytes w32 e.offset ++ (to_le_bytes w32 (info_of (number_at numbers e.symbol) (kind_number e.kind)) ++ to_le_bytes w32 e.addend)
 
 -- the entries in order; `numbers` are those of the symbols
-abbrev pub relocation_rows : List ℕ → List Entry → List ℕ
+abbrev pub relocation_rows : List ℕ → List RelocEntry → List ℕ
 relocation_rows numbers [] = []
 relocation_rows numbers (e ∷ entries) = relocation_row numbers e ++ relocation_rows numbers entries

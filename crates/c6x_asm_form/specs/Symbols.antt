@@ -5,7 +5,7 @@ use Rattle.c6x_asm_object.specs.Symbols.{symbol_name, symbol_of}
 use Rattle.std.specs.Int.{to_le_bytes, w16, w32}
 use Rattle.std.specs.List.{range_with_len}
 use Rattle.c6x_asm_object.specs.declared.symbol.Symbol.{Symbol}
-use Rattle.c6x_asm_form.specs.Bindings.{binding, is_local, is_other, visibility, spot_or_none}
+use Rattle.c6x_asm_form.specs.Bindings.{binding, is_local, is_other, visibility, definition_or_none}
 
 -- the local names, then the others
 unfoldable pub ordered : List Symbol → List Symbol
@@ -19,7 +19,7 @@ entry_row name value size info other section =
 -- the entry of a name that stands at an offset of the names
 abbrev pub symbol_row : ℕ → Symbol → List ℕ
 symbol_row name s =
-    entry_row name (spot_or_none s.spot).value (spot_or_none s.spot).size (16 * binding s) (visibility s) (spot_or_none s.spot).section
+    entry_row name (definition_or_none s.definition).value (definition_or_none s.definition).size (16 * binding s) (visibility s) (definition_or_none s.definition).section
 
 -- the entries of names one behind the other, where the first one stands at this offset
 abbrev pub symbol_rows : List ℕ → ℕ → List Symbol → List ℕ

@@ -1,18 +1,18 @@
 -- A line that is spelled is read, and then as that line alone.
 use Rattle.std.proofs.Common.{◌≡◌, Bool, false, List, [], ◌∷◌, ◌++◌, Some, None, refl, sym, ap, subst, ◌∙◌, append_assoc, append-nil, ◌≢◌}
 use Rattle.c6x_instr.specs.declared.cond.Cond.{Cond}
-use Rattle.c6x_asm_lines.specs.Grammar.{cond_reg_of, is_dotted, line_of, operands_of, read_bars, read_condition, read_head, read_label, read_unit, statement_of}
+use Rattle.c6x_asm_lines.specs.Grammar.{cond_reg_of, is_dotted, line_of, operands_of, read_parallel_bars, read_condition, read_head, read_label, read_unit, statement_of}
 use Rattle.c6x_instr.specs.declared.cond_reg.CondReg.{CondReg}
 use Rattle.c6x_instr.specs.declared.cond_reg.CondReg.TheVariants.{B0, B1, B2, A1, A2, A0}
-use Rattle.c6x_asm_lines.specs.declared.head.Head.{Head}
+use Rattle.c6x_asm_lines.specs.declared.statement_head.StatementHead.{StatementHead}
 use Rattle.c6x_asm_lines.specs.declared.lexeme.Lexeme.{Lexeme}
-use Rattle.c6x_asm_lines.specs.declared.lexeme.Lexeme.TheVariants.{Word as Worded, Sign as Signed}
+use Rattle.c6x_asm_lines.specs.declared.lexeme.Lexeme.TheVariants.{Word as Worded, Punctuator as Punctuated}
 use Rattle.c6x_asm_lines.specs.declared.line.Line.{Line}
 use Rattle.c6x_asm_lines.specs.declared.line.Statement.{Statement}
 use Rattle.c6x_asm_lines.specs.declared.number.Number.{Number}
 use Rattle.c6x_asm_lines.specs.declared.operand.Operand.{Operand}
-use Rattle.c6x_asm_lines.specs.declared.plain.Plain.{Plain}
-use Rattle.c6x_asm_lines.specs.declared.sign.Sign.TheVariants.{Colon, Comma}
+use Rattle.c6x_asm_lines.specs.declared.primary.Primary.{Primary}
+use Rattle.c6x_asm_lines.specs.declared.punctuator.Punctuator.TheVariants.{Colon, Comma}
 use Rattle.c6x_asm_lines.specs.declared.value.Value.{Value}
 use Rattle.c6x_asm_lines.specs.declared.word.Word.{Word}
 use Rattle.c6x_asm_lines.specs.declared.word.WordClass.{WordClass}
@@ -36,12 +36,12 @@ condition_again c cs word rest no_condition = refl
 condition_again c cs word rest (not_zero {register} is) = rw (is, tested_again register) refl
 condition_again c cs word rest (is_zero {register} is) = rw (is, tested_again register) refl
 
-no_bars_before : (c : Cond) (cs : List Lexeme) (word : Word) (rest : List Lexeme) → SpellsCondition c cs → read_bars (cs ++ (Worded word ∷ rest)) ≡ (false, cs ++ (Worded word ∷ rest))
+no_bars_before : (c : Cond) (cs : List Lexeme) (word : Word) (rest : List Lexeme) → SpellsCondition c cs → read_parallel_bars (cs ++ (Worded word ∷ rest)) ≡ (false, cs ++ (Worded word ∷ rest))
 no_bars_before c cs word rest no_condition = refl
 no_bars_before c cs word rest (not_zero is) = refl
 no_bars_before c cs word rest (is_zero is) = refl
 
-bars_again : (b : Bool) (bars : List Lexeme) (c : Cond) (cs : List Lexeme) (word : Word) (rest : List Lexeme) → SpellsBars b bars → SpellsCondition c cs → read_bars (bars ++ (cs ++ (Worded word ∷ rest))) ≡ (b, cs ++ (Worded word ∷ rest))
+bars_again : (b : Bool) (bars : List Lexeme) (c : Cond) (cs : List Lexeme) (word : Word) (rest : List Lexeme) → SpellsBars b bars → SpellsCondition c cs → read_parallel_bars (bars ++ (cs ++ (Worded word ∷ rest))) ≡ (b, cs ++ (Worded word ∷ rest))
 bars_again b bars c cs word rest no_bars s = no_bars_before c cs word rest s
 bars_again b bars c cs word rest some_bars s = refl
 
@@ -60,7 +60,7 @@ unit_again Nop unit rest other some is = absurd (some refl)
 unit_again (RegisterClass r) unit rest other some is = rw is refl
 unit_again _ unit rest other some is = rw is refl
 
-head_again : (h : Head) (hs rest : List Lexeme) → SpellsHead h hs → read_head (hs ++ rest) ≡ Some (h, rest)
+head_again : (h : StatementHead) (hs rest : List Lexeme) → SpellsHead h hs → read_head (hs ++ rest) ≡ Some (h, rest)
 unfolding read_head read_condition
 head_again h hs rest (directive is) = rw is refl
 head_again h hs rest (no_operation {chained} {condition} {word} {bars} {cs} b c is) =
@@ -69,7 +69,7 @@ head_again h hs rest (instruction {chained} {condition} {word} {unit} {bars} {cs
     rw (joined bars cs (Worded word ∷ Worded unit ∷ []) rest, bars_again chained bars condition cs word (Worded unit ∷ rest) b c, condition_again condition cs word (Worded unit ∷ rest) c, unit_again word.class unit rest mnemonic some is, dotted_no word.class mnemonic) refl
 
 -- a statement is not empty
-statement_read : (xs rest : List Lexeme) (h : Head) (os : List Operand) → read_head xs ≡ Some (h, rest) → operands_of rest ≡ Some os → statement_of xs ≡ Some (Some (record { head = h; operands = os }))
+statement_read : (xs rest : List Lexeme) (h : StatementHead) (os : List Operand) → read_head xs ≡ Some (h, rest) → operands_of rest ≡ Some os → statement_of xs ≡ Some (Some (record { head = h; operands = os }))
 unfolding read_head read_condition
 statement_read [] rest h os is last = cc
 statement_read (x ∷ xs) rest h os is last = rw (is, last) refl
@@ -84,7 +84,7 @@ unfolding read_label
 number_label word n ns rest number_alone = refl
 number_label word n ns rest number_minus = refl
 
-plain_label : (word : Word) (p : Plain) (ps rest : List Lexeme) → SpellsPlain p ps → read_label (Worded word ∷ ps ++ rest) ≡ Some (None, Worded word ∷ ps ++ rest)
+plain_label : (word : Word) (p : Primary) (ps rest : List Lexeme) → SpellsPlain p ps → read_label (Worded word ∷ ps ++ rest) ≡ Some (None, Worded word ∷ ps ++ rest)
 unfolding read_label
 plain_label word p ps rest (plain_register is) = refl
 plain_label word p ps rest (plain_number {n} {ns} s) = number_label word n ns rest s
@@ -111,7 +111,7 @@ operands_label word all lexemes (some_operands {os} {xs} s) = list_label os xs s
     list_label : (os : List Operand) (xs : List Lexeme) → SpellsList os xs → read_label (Worded word ∷ xs) ≡ Some (None, Worded word ∷ xs)
     list_label all lexemes (one_operand {o} {xs} s) =
         subst (λ ys. read_label (Worded word ∷ ys) ≡ Some (None, Worded word ∷ ys)) (append-nil xs) (operand_label word o xs [] s)
-    list_label all lexemes (more_operands {o} {os} {xs} {ys} s more) = operand_label word o xs (Signed Comma ∷ ys) s
+    list_label all lexemes (more_operands {o} {os} {xs} {ys} s more) = operand_label word o xs (Punctuated Comma ∷ ys) s
 
 -- no statement begins with a label
 word_label : (b : Bool) (bars : List Lexeme) (c : Cond) (cs : List Lexeme) (word : Word) (rest : List Lexeme) → SpellsBars b bars → SpellsCondition c cs → read_label (Worded word ∷ rest) ≡ Some (None, Worded word ∷ rest) → read_label (bars ++ (cs ++ (Worded word ∷ rest))) ≡ Some (None, bars ++ (cs ++ (Worded word ∷ rest)))
@@ -121,7 +121,7 @@ word_label b bars c cs word rest no_bars (not_zero tests) is = refl
 word_label b bars c cs word rest no_bars (is_zero tests) is = refl
 word_label b bars c cs word rest some_bars s is = refl
 
-head_label : (h : Head) (hs : List Lexeme) (os : List Operand) (xs : List Lexeme) → SpellsHead h hs → SpellsOperands os xs → read_label (hs ++ xs) ≡ Some (None, hs ++ xs)
+head_label : (h : StatementHead) (hs : List Lexeme) (os : List Operand) (xs : List Lexeme) → SpellsHead h hs → SpellsOperands os xs → read_label (hs ++ xs) ≡ Some (None, hs ++ xs)
 unfolding read_label
 head_label h hs os xs (directive {word} is) o = operands_label word os xs o
 head_label h hs os xs (no_operation {chained} {condition} {word} {bars} {cs} b c is) o =
@@ -133,7 +133,7 @@ statement_label : (s : Statement) (ss : List Lexeme) → SpellsStatement s ss �
 statement_label s ss (statement_spelled {head} {operands} {hs} {os} h o) = head_label head hs operands os h o
 
 -- a label before a statement, or alone
-label_again : (name : Word) (rest : List Lexeme) → IsName name → read_label (Worded name ∷ Signed Colon ∷ rest) ≡ Some (Some name, rest)
+label_again : (name : Word) (rest : List Lexeme) → IsName name → read_label (Worded name ∷ Punctuated Colon ∷ rest) ≡ Some (Some name, rest)
 unfolding read_label
 label_again name rest is = rw (name_test name is) refl
 

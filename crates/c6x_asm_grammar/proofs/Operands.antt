@@ -1,20 +1,20 @@
 -- Operands that are spelled are read, each to its end, and the commas between them part them.
 use Rattle.std.proofs.Common.{◌≡◌, ◌≢◌, nat_le, if◌then◌else◌, false, List, [], ◌∷◌, ◌++◌, map, Option, Some, None, refl, subst, ◌∙◌, append-nil}
 use Rattle.std.specs.List.{slice_split}
-use Rattle.c6x_asm_lines.specs.Grammar.{◌>>=◌, all_operands, base_of, is_comma, operands_of, read_address, read_offset, read_operand, read_step, read_value, whole_operand}
+use Rattle.c6x_asm_lines.specs.Grammar.{◌>>=◌, all_operands, base_of, is_comma, operands_of, read_address, read_offset, read_operand, read_modifier, read_value, whole_operand}
 use Rattle.c6x_asm_lines.specs.declared.address.Address.{Address}
 use Rattle.c6x_asm_lines.specs.declared.lexeme.Lexeme.{Lexeme}
-use Rattle.c6x_asm_lines.specs.declared.lexeme.Lexeme.TheVariants.{Word as Worded, Sign as Signed}
+use Rattle.c6x_asm_lines.specs.declared.lexeme.Lexeme.TheVariants.{Word as Worded, Punctuator as Punctuated}
 use Rattle.c6x_asm_lines.specs.declared.mode.Mode.{Mode}
 use Rattle.c6x_asm_lines.specs.declared.number.Number.{Number}
 use Rattle.c6x_asm_lines.specs.declared.offset.Offset.{Offset}
 use Rattle.c6x_asm_lines.specs.declared.operand.Operand.{Operand}
 use Rattle.c6x_asm_lines.specs.declared.operand.Operand.TheVariants.{Value as ValueOperand}
-use Rattle.c6x_asm_lines.specs.declared.plain.Plain.{Plain}
+use Rattle.c6x_asm_lines.specs.declared.primary.Primary.{Primary}
 use Rattle.c6x_asm_lines.specs.declared.register.Register.{Register}
-use Rattle.c6x_asm_lines.specs.declared.sign.Sign.{Sign}
-use Rattle.c6x_asm_lines.specs.declared.sign.Sign.TheVariants.{Comma, RightBracket, RightParenthesis}
-use Rattle.c6x_asm_lines.specs.declared.step.Step.TheVariants.{Still}
+use Rattle.c6x_asm_lines.specs.declared.punctuator.Punctuator.{Punctuator}
+use Rattle.c6x_asm_lines.specs.declared.punctuator.Punctuator.TheVariants.{Comma, RightBracket, RightParenthesis}
+use Rattle.c6x_asm_lines.specs.declared.base_modifier.BaseModifier.TheVariants.{Unmodified}
 use Rattle.c6x_asm_lines.specs.declared.value.Value.{Value}
 use Rattle.c6x_asm_lines.specs.declared.word.Word.{Word}
 use Rattle.c6x_asm_lines.specs.declared.word.WordClass.{WordClass}
@@ -32,7 +32,7 @@ base_again base word (base_register is) = rw is refl
 base_again base word (base_name name) = base_class word.class word name.free ∙ rw (short_test word name) refl
 
 -- the offset of an address, to the end of the operand
-no_step : (offset : Offset) (os : List Lexeme) → SpellsOffset offset os → read_step os ≡ (Still, os)
+no_step : (offset : Offset) (os : List Lexeme) → SpellsOffset offset os → read_modifier os ≡ (Unmodified, os)
 no_step offset os no_offset = refl
 no_step offset os (in_brackets s) = refl
 no_step offset os (in_parentheses s) = refl
@@ -40,11 +40,11 @@ no_step offset os (in_parentheses s) = refl
 offset_again : (offset : Offset) (os : List Lexeme) → SpellsOffset offset os → read_offset os ≡ Some (offset, [])
 unfolding read_offset
 offset_again offset os no_offset = refl
-offset_again offset os (in_brackets {v} {vs} s) = rw (value_again v vs (Signed RightBracket ∷ []) s at_bracket) refl
-offset_again offset os (in_parentheses {v} {vs} s) = rw (value_again v vs (Signed RightParenthesis ∷ []) s at_parenthesis) refl
+offset_again offset os (in_brackets {v} {vs} s) = rw (value_again v vs (Punctuated RightBracket ∷ []) s at_bracket) refl
+offset_again offset os (in_parentheses {v} {vs} s) = rw (value_again v vs (Punctuated RightParenthesis ∷ []) s at_parenthesis) refl
 
 -- an address, from what its base and its offset are read as
-shape_again : (base : Option Register) (word : Word) (mode : Mode) (before behind : List Sign) (offset : Offset) (os : List Lexeme) → base_of word.class word ≡ Some base → SpellsMode mode before behind offset → read_step os ≡ (Still, os) → read_offset os ≡ Some (offset, []) → read_address (map Signed before ++ (Worded word ∷ map Signed behind ++ os)) ≡ Some (record { base = base; mode = mode; offset = offset }, [])
+shape_again : (base : Option Register) (word : Word) (mode : Mode) (before behind : List Punctuator) (offset : Offset) (os : List Lexeme) → base_of word.class word ≡ Some base → SpellsMode mode before behind offset → read_modifier os ≡ (Unmodified, os) → read_offset os ≡ Some (offset, []) → read_address (map Punctuated before ++ (Worded word ∷ map Punctuated behind ++ os)) ≡ Some (record { base = base; mode = mode; offset = offset }, [])
 unfolding read_address
 shape_again base word mode before behind offset os is at_base still reads = rw (is, still, reads) refl
 shape_again base word mode before behind offset os is ahead still reads = rw (is, still, reads) refl
@@ -69,7 +69,7 @@ unfolding read_operand
 number_begins n ns number_alone = refl
 number_begins n ns number_minus = refl
 
-plain_begins : (p : Plain) (ps : List Lexeme) → SpellsPlain p ps → read_operand ps ≡ (read_value ps >>= λ v. Some (ValueOperand v.0, v.1))
+plain_begins : (p : Primary) (ps : List Lexeme) → SpellsPlain p ps → read_operand ps ≡ (read_value ps >>= λ v. Some (ValueOperand v.0, v.1))
 unfolding read_operand
 plain_begins p ps (plain_register is) = refl
 plain_begins p ps (plain_number {n} {ns} s) = number_begins n ns s
@@ -107,7 +107,7 @@ number_free : (n : Number) (ns : List Lexeme) → SpellsNumber n ns → HasNoCom
 number_free n ns number_alone = (refl, tt)
 number_free n ns number_minus = (refl, (refl, tt))
 
-plain_free : (p : Plain) (ps : List Lexeme) → SpellsPlain p ps → HasNoComma ps
+plain_free : (p : Primary) (ps : List Lexeme) → SpellsPlain p ps → HasNoComma ps
 plain_free p ps (plain_register is) = (refl, tt)
 plain_free p ps (plain_number {n} {ns} s) = number_free n ns s
 plain_free p ps (symbol_alone is) = (refl, tt)
@@ -117,15 +117,15 @@ plain_free p ps (symbol_minus {name} {n} {ns} is s) = (refl, (refl, number_free 
 value_free : (v : Value) (vs : List Lexeme) → SpellsValue v vs → HasNoComma vs
 value_free v vs (value_plain {p} {ps} s) = plain_free p ps s
 value_free v vs (value_of_kind {kind} {p} {ps} s) =
-    (refl, (refl, (refl, none_in_both ps (Signed RightParenthesis ∷ []) (plain_free p ps s) (refl, tt))))
+    (refl, (refl, (refl, none_in_both ps (Punctuated RightParenthesis ∷ []) (plain_free p ps s) (refl, tt))))
 value_free v vs value_kind = (refl, (refl, tt))
 
 offset_free : (offset : Offset) (os : List Lexeme) → SpellsOffset offset os → HasNoComma os
 offset_free offset os no_offset = tt
-offset_free offset os (in_brackets {v} {vs} s) = (refl, none_in_both vs (Signed RightBracket ∷ []) (value_free v vs s) (refl, tt))
-offset_free offset os (in_parentheses {v} {vs} s) = (refl, none_in_both vs (Signed RightParenthesis ∷ []) (value_free v vs s) (refl, tt))
+offset_free offset os (in_brackets {v} {vs} s) = (refl, none_in_both vs (Punctuated RightBracket ∷ []) (value_free v vs s) (refl, tt))
+offset_free offset os (in_parentheses {v} {vs} s) = (refl, none_in_both vs (Punctuated RightParenthesis ∷ []) (value_free v vs s) (refl, tt))
 
-mode_free : (mode : Mode) (before behind : List Sign) (offset : Offset) → SpellsMode mode before behind offset → HasNoComma (map Signed before) × HasNoComma (map Signed behind)
+mode_free : (mode : Mode) (before behind : List Punctuator) (offset : Offset) → SpellsMode mode before behind offset → HasNoComma (map Punctuated before) × HasNoComma (map Punctuated behind)
 mode_free mode before behind offset at_base = (tt, tt)
 mode_free mode before behind offset ahead = ((refl, tt), tt)
 mode_free mode before behind offset ahead_bytes = ((refl, tt), tt)
@@ -142,8 +142,8 @@ mode_free mode before behind offset then_down_by = (tt, (refl, (refl, tt)))
 address_free : (a : Address) (xs : List Lexeme) → SpellsAddress a xs → HasNoComma xs
 address_free a xs (address_spelled {base} {word} {mode} {offset} {before} {behind} {os} b m o) =
     let signs = mode_free mode before behind offset m in
-    let last = none_in_both (map Signed behind) os signs.1 (offset_free offset os o) in
-    none_in_both (map Signed before) (Worded word ∷ map Signed behind ++ os) signs.0 (refl, last)
+    let last = none_in_both (map Punctuated behind) os signs.1 (offset_free offset os o) in
+    none_in_both (map Punctuated before) (Worded word ∷ map Punctuated behind ++ os) signs.0 (refl, last)
 
 operand_free : (o : Operand) (xs : List Lexeme) → SpellsOperand o xs → HasNoComma xs
 operand_free o xs operand_text = (refl, tt)
@@ -154,7 +154,7 @@ no_parts : (xs : List Lexeme) → HasNoComma xs → slice_split is_comma xs ≡ 
 no_parts [] free = refl
 no_parts (x ∷ xs) free = rw (free.0, no_parts xs free.1) refl
 
-parts : (xs ys : List Lexeme) → HasNoComma xs → slice_split is_comma (xs ++ (Signed Comma ∷ ys)) ≡ xs ∷ slice_split is_comma ys
+parts : (xs ys : List Lexeme) → HasNoComma xs → slice_split is_comma (xs ++ (Punctuated Comma ∷ ys)) ≡ xs ∷ slice_split is_comma ys
 parts [] ys free = refl
 parts (x ∷ xs) ys free = rw (free.0, parts xs ys free.1) refl
 

@@ -8,16 +8,16 @@ use Rattle.c6x_instr.specs.declared.cond.Cond.{Cond}
 use Rattle.c6x_instr.specs.declared.cond.Cond.TheVariants.{Always, If}
 use Rattle.c6x_instr.specs.declared.cond_reg.CondReg.{CondReg}
 use Rattle.c6x_instr.specs.declared.cond_reg.CondReg.TheVariants.{B0, B1, B2, A1, A2, A0}
-use Rattle.c6x_asm_lines.specs.Grammar.{◌>>=◌, all_operands, cond_reg_of, condition_on, is_comma, is_conditional, is_dotted, is_name, line_of, operands_of, read_address, read_bars, read_condition, read_head, read_label, read_operand, read_unit, read_value, read_word, statement_of, unit_word, whole_operand, with_no_rest}
-use Rattle.c6x_asm_lines.specs.declared.head.Head.{Head}
+use Rattle.c6x_asm_lines.specs.Grammar.{◌>>=◌, all_operands, cond_reg_of, condition_on, is_comma, is_conditional, is_dotted, is_name, line_of, operands_of, read_address, read_parallel_bars, read_condition, read_head, read_label, read_operand, read_unit, read_value, read_word, statement_of, unit_word, whole_operand, with_no_rest}
+use Rattle.c6x_asm_lines.specs.declared.statement_head.StatementHead.{StatementHead}
 use Rattle.c6x_asm_lines.specs.declared.lexeme.Lexeme.{Lexeme}
-use Rattle.c6x_asm_lines.specs.declared.lexeme.Lexeme.TheVariants.{Word as Worded, Text, Sign as Signed}
+use Rattle.c6x_asm_lines.specs.declared.lexeme.Lexeme.TheVariants.{Word as Worded, Text, Punctuator as Punctuated}
 use Rattle.c6x_asm_lines.specs.declared.line.Line.{Line}
 use Rattle.c6x_asm_lines.specs.declared.line.Statement.{Statement}
 use Rattle.c6x_asm_lines.specs.declared.operand.Operand.{Operand}
 use Rattle.c6x_asm_lines.specs.declared.operand.Operand.TheVariants.{Text as TextOperand, Address as AddressOperand, Value as ValueOperand}
 use Rattle.c6x_asm_lines.specs.declared.register.Register.{Register}
-use Rattle.c6x_asm_lines.specs.declared.sign.Sign.TheVariants.{Bang, Bars, Colon, Comma, LeftBracket, RightBracket, Star}
+use Rattle.c6x_asm_lines.specs.declared.punctuator.Punctuator.TheVariants.{Bang, ParallelBars, Colon, Comma, LeftBracket, RightBracket, Star}
 use Rattle.c6x_asm_lines.specs.declared.word.Word.{Word}
 use Rattle.c6x_asm_lines.specs.declared.word.WordClass.{WordClass}
 use Rattle.c6x_asm_lines.specs.declared.word.WordClass.TheVariants.{Register as RegisterClass, Dotted, Nop, Other}
@@ -30,11 +30,11 @@ unfolding read_operand
 operand_taken (Text at len ∷ rest) x is =
     given (λ x. Takes SpellsOperand x (Text at len ∷ rest)) (TextOperand at len, rest) x is
     (record { front = Text at len ∷ []; spells = operand_text; split = refl })
-operand_taken (Signed Star ∷ rest) x is =
+operand_taken (Punctuated Star ∷ rest) x is =
     let a = first_found (read_address rest) (λ a. Some (AddressOperand a.0, a.1)) x is in
     let t = address_taken rest a.0 a.1 in
-    given (λ x. Takes SpellsOperand x (Signed Star ∷ rest)) (AddressOperand a.0.0, a.0.1) x a.2
-    (record { front = Signed Star ∷ t.front; spells = operand_address t.spells; split = ap (λ xs. Signed Star ∷ xs) t.split })
+    given (λ x. Takes SpellsOperand x (Punctuated Star ∷ rest)) (AddressOperand a.0.0, a.0.1) x a.2
+    (record { front = Punctuated Star ∷ t.front; spells = operand_address t.spells; split = ap (λ xs. Punctuated Star ∷ xs) t.split })
 operand_taken xs x is = value_operand xs x is
   where
     value_operand : (xs : List Lexeme) (x : Operand × List Lexeme) → (read_value xs >>= λ v. Some (ValueOperand v.0, v.1)) ≡ Some x → Takes SpellsOperand x xs
@@ -60,7 +60,7 @@ operand_whole xs o is =
 -- lists with a comma between each two
 abbrev with_commas : List Lexeme → List (List Lexeme) → List Lexeme
 with_commas piece [] = piece
-with_commas piece (next ∷ pieces) = piece ++ (Signed Comma ∷ with_commas next pieces)
+with_commas piece (next ∷ pieces) = piece ++ (Punctuated Comma ∷ with_commas next pieces)
 
 -- The pieces between the commas, put together again.
 record Pieces (xs : List Lexeme) : Type 0 where
@@ -69,8 +69,8 @@ record Pieces (xs : List Lexeme) : Type 0 where
   is : slice_split is_comma xs ≡ first ∷ more
   whole : with_commas first more ≡ xs
 
-the_comma : (x : Lexeme) → is_comma x ≡ true → Signed Comma ≡ x
-the_comma (Signed Comma) is = refl
+the_comma : (x : Lexeme) → is_comma x ≡ true → Punctuated Comma ≡ x
+the_comma (Punctuated Comma) is = refl
 the_comma _ is = cc
 
 longer : (x : Lexeme) (first : List Lexeme) (more : List (List Lexeme)) → with_commas (x ∷ first) more ≡ x ∷ with_commas first more
@@ -102,7 +102,7 @@ list_spelled piece [] os is =
 list_spelled piece (next ∷ pieces) os is =
     let o = first_found (whole_operand piece) (λ o. all_operands (next ∷ pieces) >>= λ os. Some (o ∷ os)) os is in
     let more = first_found (all_operands (next ∷ pieces)) (λ os. Some (o.0 ∷ os)) os o.2 in
-    given (λ os. SpellsList os (piece ++ (Signed Comma ∷ with_commas next pieces))) (o.0 ∷ more.0) os more.2
+    given (λ os. SpellsList os (piece ++ (Punctuated Comma ∷ with_commas next pieces))) (o.0 ∷ more.0) os more.2
     (more_operands (operand_whole piece o.0 o.1) (list_spelled next pieces more.0 more.1))
 
 operands_spelled : (xs : List Lexeme) (os : List Operand) → operands_of xs ≡ Some os → SpellsOperands os xs
@@ -119,14 +119,14 @@ name_found _ word same is = named word (λ r e. cc) is
 
 label_taken : (xs : List Lexeme) (x : Option Word × List Lexeme) → read_label xs ≡ Some x → Takes SpellsLabel x xs
 unfolding read_label
-label_taken (Worded word ∷ Signed Colon ∷ rest) x is =
+label_taken (Worded word ∷ Punctuated Colon ∷ rest) x is =
     let name = if_found (is_name word.class word) (Some (Some word, rest)) x is in
-    given (λ x. Takes SpellsLabel x (Worded word ∷ Signed Colon ∷ rest)) (Some word, rest) x name.1
-    (record { front = Worded word ∷ Signed Colon ∷ []; spells = a_label (name_found word.class word refl name.0); split = refl })
+    given (λ x. Takes SpellsLabel x (Worded word ∷ Punctuated Colon ∷ rest)) (Some word, rest) x name.1
+    (record { front = Worded word ∷ Punctuated Colon ∷ []; spells = a_label (name_found word.class word refl name.0); split = refl })
 label_taken xs x is = given (λ x. Takes SpellsLabel x xs) (None, xs) x is (record { front = []; spells = no_label; split = refl })
 
-bars_taken : (xs : List Lexeme) → Takes SpellsBars (read_bars xs) xs
-bars_taken (Signed Bars ∷ rest) = record { front = Signed Bars ∷ []; spells = some_bars; split = refl }
+bars_taken : (xs : List Lexeme) → Takes SpellsBars (read_parallel_bars xs) xs
+bars_taken (Punctuated ParallelBars ∷ rest) = record { front = Punctuated ParallelBars ∷ []; spells = some_bars; split = refl }
 bars_taken xs = record { front = []; spells = no_bars; split = refl }
 
 -- the register that a condition tests
@@ -151,21 +151,21 @@ condition_found _ zero c is = cc
 
 condition_taken : (xs : List Lexeme) (x : Cond × List Lexeme) → read_condition xs ≡ Some x → Takes SpellsCondition x xs
 unfolding read_condition
-condition_taken (Signed LeftBracket ∷ Signed Bang ∷ Worded word ∷ Signed RightBracket ∷ rest) x is =
-    let lexemes = Signed LeftBracket ∷ Signed Bang ∷ Worded word ∷ Signed RightBracket ∷ rest in
+condition_taken (Punctuated LeftBracket ∷ Punctuated Bang ∷ Worded word ∷ Punctuated RightBracket ∷ rest) x is =
+    let lexemes = Punctuated LeftBracket ∷ Punctuated Bang ∷ Worded word ∷ Punctuated RightBracket ∷ rest in
     let c = first_found (condition_on word.class true) (λ c. Some (c, rest)) x is in
     let r = condition_found word.class true c.0 c.1 in
     given (λ x. Takes SpellsCondition x lexemes) (c.0, rest) x c.2
     (subst (λ c. Takes SpellsCondition (c, rest) lexemes) r.2
-    (record { front = Signed LeftBracket ∷ Signed Bang ∷ Worded word ∷ Signed RightBracket ∷ []; spells = is_zero r.1; split = refl }))
-condition_taken (Signed LeftBracket ∷ Worded word ∷ Signed RightBracket ∷ rest) x is =
-    let lexemes = Signed LeftBracket ∷ Worded word ∷ Signed RightBracket ∷ rest in
+    (record { front = Punctuated LeftBracket ∷ Punctuated Bang ∷ Worded word ∷ Punctuated RightBracket ∷ []; spells = is_zero r.1; split = refl }))
+condition_taken (Punctuated LeftBracket ∷ Worded word ∷ Punctuated RightBracket ∷ rest) x is =
+    let lexemes = Punctuated LeftBracket ∷ Worded word ∷ Punctuated RightBracket ∷ rest in
     let c = first_found (condition_on word.class false) (λ c. Some (c, rest)) x is in
     let r = condition_found word.class false c.0 c.1 in
     given (λ x. Takes SpellsCondition x lexemes) (c.0, rest) x c.2
     (subst (λ c. Takes SpellsCondition (c, rest) lexemes) r.2
-    (record { front = Signed LeftBracket ∷ Worded word ∷ Signed RightBracket ∷ []; spells = not_zero r.1; split = refl }))
-condition_taken (Signed LeftBracket ∷ rest) x is = cc
+    (record { front = Punctuated LeftBracket ∷ Worded word ∷ Punctuated RightBracket ∷ []; spells = not_zero r.1; split = refl }))
+condition_taken (Punctuated LeftBracket ∷ rest) x is = cc
 condition_taken xs x is =
     given (λ x. Takes SpellsCondition x xs) (Always, xs) x is (record { front = []; spells = no_condition; split = refl })
 
@@ -193,12 +193,12 @@ unit_found rest u is =
     (record { unit = w.0.0; is = refl; dotted = dotted_yes w.0.0.class dotted.0; split = word_read rest w.0 w.1 })
 
 -- what is read behind the condition
-abbrev head_behind : Bool → Cond → Word → WordClass → Option Word × List Lexeme → Option (Head × List Lexeme)
+abbrev head_behind : Bool → Cond → Word → WordClass → Option Word × List Lexeme → Option (StatementHead × List Lexeme)
 head_behind bars c word class u =
     if is_dotted class && (bars || is_conditional c) then None
     else Some (record { chained = bars; condition = c; word = word; unit = u.0 }, u.1)
 
-directive_taken : (bars : Bool) (c : Cond) (bs cs : List Lexeme) (word : Word) (rest : List Lexeme) (x : Head × List Lexeme) → SpellsBars bars bs → SpellsCondition c cs → word.class ≡ Dotted → head_behind bars c word Dotted (None, rest) ≡ Some x → Takes SpellsHead x (bs ++ (cs ++ (Worded word ∷ rest)))
+directive_taken : (bars : Bool) (c : Cond) (bs cs : List Lexeme) (word : Word) (rest : List Lexeme) (x : StatementHead × List Lexeme) → SpellsBars bars bs → SpellsCondition c cs → word.class ≡ Dotted → head_behind bars c word Dotted (None, rest) ≡ Some x → Takes SpellsHead x (bs ++ (cs ++ (Worded word ∷ rest)))
 directive_taken bars c bs cs word rest x no_bars no_condition dotted is =
     given (λ x. Takes SpellsHead x (Worded word ∷ rest)) (record { chained = false; condition = Always; word = word; unit = None }, rest) x is
     (record { front = Worded word ∷ []; spells = directive dotted; split = refl })
@@ -206,7 +206,7 @@ directive_taken bars c bs cs word rest x no_bars (not_zero tests) dotted is = cc
 directive_taken bars c bs cs word rest x no_bars (is_zero tests) dotted is = cc
 directive_taken bars c bs cs word rest x some_bars tests dotted is = cc
 
-instruction_taken : (bars : Bool) (c : Cond) (bs cs : List Lexeme) (word : Word) (rest : List Lexeme) (u : Option Word × List Lexeme) (x : Head × List Lexeme) → SpellsBars bars bs → SpellsCondition c cs → word.class ≢ Dotted → word.class ≢ Nop → (read_word rest >>= λ w. unit_word w.0 w.1) ≡ Some u → Some (record { chained = bars; condition = c; word = word; unit = u.0 }, u.1) ≡ Some x → Takes SpellsHead x (bs ++ (cs ++ (Worded word ∷ rest)))
+instruction_taken : (bars : Bool) (c : Cond) (bs cs : List Lexeme) (word : Word) (rest : List Lexeme) (u : Option Word × List Lexeme) (x : StatementHead × List Lexeme) → SpellsBars bars bs → SpellsCondition c cs → word.class ≢ Dotted → word.class ≢ Nop → (read_word rest >>= λ w. unit_word w.0 w.1) ≡ Some u → Some (record { chained = bars; condition = c; word = word; unit = u.0 }, u.1) ≡ Some x → Takes SpellsHead x (bs ++ (cs ++ (Worded word ∷ rest)))
 instruction_taken bars c bs cs word rest u x b s mnemonic some is last =
     let unit = unit_found rest u is in
     let lexemes = bs ++ (cs ++ (Worded word ∷ rest)) in
@@ -218,7 +218,7 @@ instruction_taken bars c bs cs word rest u x b s mnemonic some is last =
       split = ap (λ ys. bs ++ (cs ++ (Worded word ∷ ys))) unit.split ∙ sym (joined bs cs (Worded word ∷ Worded unit.unit ∷ []) u.1);
     }))
 
-head_found : (bars : Bool) (c : Cond) (bs cs : List Lexeme) (word : Word) (class : WordClass) (rest : List Lexeme) (u : Option Word × List Lexeme) (x : Head × List Lexeme) → SpellsBars bars bs → SpellsCondition c cs → word.class ≡ class → read_unit class rest ≡ Some u → head_behind bars c word class u ≡ Some x → Takes SpellsHead x (bs ++ (cs ++ (Worded word ∷ rest)))
+head_found : (bars : Bool) (c : Cond) (bs cs : List Lexeme) (word : Word) (class : WordClass) (rest : List Lexeme) (u : Option Word × List Lexeme) (x : StatementHead × List Lexeme) → SpellsBars bars bs → SpellsCondition c cs → word.class ≡ class → read_unit class rest ≡ Some u → head_behind bars c word class u ≡ Some x → Takes SpellsHead x (bs ++ (cs ++ (Worded word ∷ rest)))
 head_found bars c bs cs word Dotted rest u x b s same unit is =
     directive_taken bars c bs cs word rest x b s same (given (λ u. head_behind bars c word Dotted u ≡ Some x) u (None, rest) (sym unit) is)
 head_found bars c bs cs word Nop rest u x b s same unit is =
@@ -230,10 +230,10 @@ head_found bars c bs cs word (RegisterClass r) rest u x b s same unit is =
 head_found bars c bs cs word Other rest u x b s same unit is =
     instruction_taken bars c bs cs word rest u x b s (λ e. cc) (λ e. cc) unit is
 
-head_taken : (xs : List Lexeme) (x : Head × List Lexeme) → read_head xs ≡ Some x → Takes SpellsHead x xs
+head_taken : (xs : List Lexeme) (x : StatementHead × List Lexeme) → read_head xs ≡ Some x → Takes SpellsHead x xs
 unfolding read_head
 head_taken xs x is =
-    let bars = read_bars xs in
+    let bars = read_parallel_bars xs in
     let b = bars_taken xs in
     let c = first_found (read_condition bars.1) (λ c. read_word c.1 >>= λ w. read_unit w.0.class w.1 >>= λ u. head_behind bars.0 c.0 w.0 w.0.class u) x is in
     let t = condition_taken bars.1 c.0 c.1 in

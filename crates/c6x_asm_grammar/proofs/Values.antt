@@ -1,16 +1,16 @@
 -- Numbers, plain values and values that are spelled are read, whatever may follow them.
 use Rattle.std.proofs.Common.{◌≡◌, ◌≢◌, nat_le, true, List, [], ◌∷◌, ◌++◌, Some, None, refl, ◌∙◌, append_assoc, arith}
 use Rattle.std.proofs.lemmas.Bool.Decides.{nat_tests}
-use Rattle.c6x_asm_lines.specs.Grammar.{◌>>=◌, is_name, read_addend, read_number, read_plain, read_symbol, read_value, read_worded}
+use Rattle.c6x_asm_lines.specs.Grammar.{◌>>=◌, is_name, read_addend, read_number, read_primary, read_symbol, read_value, read_worded}
 use Rattle.c6x_asm_lines.specs.declared.lexeme.Lexeme.{Lexeme}
-use Rattle.c6x_asm_lines.specs.declared.lexeme.Lexeme.TheVariants.{Word as Worded, Sign as Signed}
+use Rattle.c6x_asm_lines.specs.declared.lexeme.Lexeme.TheVariants.{Word as Worded, Punctuator as Punctuated}
 use Rattle.c6x_asm_lines.specs.declared.number.Number.{Number}
-use Rattle.c6x_asm_lines.specs.declared.plain.Plain.{Plain}
-use Rattle.c6x_asm_lines.specs.declared.plain.Plain.TheVariants.{Number as PlainNumber, Symbol as PlainSymbol}
+use Rattle.c6x_asm_lines.specs.declared.primary.Primary.{Primary}
+use Rattle.c6x_asm_lines.specs.declared.primary.Primary.TheVariants.{Number as PrimaryNumber, Symbol as PrimarySymbol}
 use Rattle.c6x_asm_lines.specs.declared.register.Register.{Register}
-use Rattle.c6x_asm_lines.specs.declared.sign.Sign.TheVariants.{Plus, Minus, Percent, RightBracket, RightParenthesis}
+use Rattle.c6x_asm_lines.specs.declared.punctuator.Punctuator.TheVariants.{Plus, Minus, Percent, RightBracket, RightParenthesis}
 use Rattle.c6x_asm_lines.specs.declared.value.Value.{Value}
-use Rattle.c6x_asm_lines.specs.declared.value.Value.TheVariants.{Plain as PlainValue, Kind as KindValue}
+use Rattle.c6x_asm_lines.specs.declared.value.Value.TheVariants.{Primary as PrimaryValue, Kind as KindValue}
 use Rattle.c6x_asm_lines.specs.declared.word.Word.{Word}
 use Rattle.c6x_asm_lines.specs.declared.word.WordClass.{WordClass}
 use Rattle.c6x_asm_lines.specs.declared.word.WordClass.TheVariants.{Register as RegisterClass}
@@ -19,8 +19,8 @@ use Rattle.c6x_asm_grammar.specs.Spelling.{IsName, SpellsNumber, number_alone, n
 -- What may stand behind a value: nothing, or a closing sign.
 pub data Ends : List Lexeme → Type 0 where
   at_end : Ends []
-  at_bracket : {rest : List Lexeme} → Ends (Signed RightBracket ∷ rest)
-  at_parenthesis : {rest : List Lexeme} → Ends (Signed RightParenthesis ∷ rest)
+  at_bracket : {rest : List Lexeme} → Ends (Punctuated RightBracket ∷ rest)
+  at_parenthesis : {rest : List Lexeme} → Ends (Punctuated RightParenthesis ∷ rest)
 
 number_again : (n : Number) (ns rest : List Lexeme) → SpellsNumber n ns → read_number (ns ++ rest) ≡ Some (n, rest)
 number_again n ns rest number_alone = refl
@@ -43,7 +43,7 @@ symbol_class : (class : WordClass) (word : Word) (rest : List Lexeme) → ((r : 
 symbol_class (RegisterClass r) word rest free = absurd (free r refl)
 symbol_class _ word rest free = refl
 
-symbol_again : (word : Word) (rest : List Lexeme) → IsName word → read_plain (Worded word ∷ rest) ≡ (read_addend rest >>= λ a. Some (PlainSymbol word a.0, a.1))
+symbol_again : (word : Word) (rest : List Lexeme) → IsName word → read_primary (Worded word ∷ rest) ≡ (read_addend rest >>= λ a. Some (PrimarySymbol word a.0, a.1))
 symbol_again word rest name = symbol_class word.class word rest name.free ∙ rw (short_test word name) refl
 
 no_addend : (rest : List Lexeme) → Ends rest → read_addend rest ≡ Some (None, rest)
@@ -51,26 +51,26 @@ no_addend rest at_end = refl
 no_addend rest at_bracket = refl
 no_addend rest at_parenthesis = refl
 
-plain_number_again : (n : Number) (ns rest : List Lexeme) → SpellsNumber n ns → read_plain (ns ++ rest) ≡ Some (PlainNumber n, rest)
+plain_number_again : (n : Number) (ns rest : List Lexeme) → SpellsNumber n ns → read_primary (ns ++ rest) ≡ Some (PrimaryNumber n, rest)
 plain_number_again n ns rest number_alone = refl
 plain_number_again n ns rest number_minus = refl
 
-pub plain_again : (p : Plain) (ps rest : List Lexeme) → SpellsPlain p ps → Ends rest → read_plain (ps ++ rest) ≡ Some (p, rest)
+pub plain_again : (p : Primary) (ps rest : List Lexeme) → SpellsPlain p ps → Ends rest → read_primary (ps ++ rest) ≡ Some (p, rest)
 plain_again p ps rest (plain_register is) ends = rw is refl
 plain_again p ps rest (plain_number {n} {ns} s) ends = plain_number_again n ns rest s
 plain_again p ps rest (symbol_alone {name} is) ends = symbol_again name rest is ∙ rw (no_addend rest ends) refl
 plain_again p ps rest (symbol_plus {name} {n} {ns} is s) ends =
-    symbol_again name (Signed Plus ∷ ns ++ rest) is ∙ rw (number_again n ns rest s) refl
+    symbol_again name (Punctuated Plus ∷ ns ++ rest) is ∙ rw (number_again n ns rest s) refl
 plain_again p ps rest (symbol_minus {name} {n} {ns} is s) ends =
-    symbol_again name (Signed Minus ∷ ns ++ rest) is ∙ rw (number_again n ns rest s) refl
+    symbol_again name (Punctuated Minus ∷ ns ++ rest) is ∙ rw (number_again n ns rest s) refl
 
 -- what begins as a plain value has no `%` before it
-number_first : (n : Number) (ns rest : List Lexeme) → SpellsNumber n ns → read_value (ns ++ rest) ≡ (read_plain (ns ++ rest) >>= λ x. Some (PlainValue x.0, x.1))
+number_first : (n : Number) (ns rest : List Lexeme) → SpellsNumber n ns → read_value (ns ++ rest) ≡ (read_primary (ns ++ rest) >>= λ x. Some (PrimaryValue x.0, x.1))
 unfolding read_value
 number_first n ns rest number_alone = refl
 number_first n ns rest number_minus = refl
 
-plain_first : (p : Plain) (ps rest : List Lexeme) → SpellsPlain p ps → read_value (ps ++ rest) ≡ (read_plain (ps ++ rest) >>= λ x. Some (PlainValue x.0, x.1))
+plain_first : (p : Primary) (ps rest : List Lexeme) → SpellsPlain p ps → read_value (ps ++ rest) ≡ (read_primary (ps ++ rest) >>= λ x. Some (PrimaryValue x.0, x.1))
 unfolding read_value
 plain_first p ps rest (plain_register is) = refl
 plain_first p ps rest (plain_number {n} {ns} s) = number_first n ns rest s
@@ -78,7 +78,7 @@ plain_first p ps rest (symbol_alone is) = refl
 plain_first p ps rest (symbol_plus is s) = refl
 plain_first p ps rest (symbol_minus is s) = refl
 
-kind_again : (kind : Word) (rest : List Lexeme) → Ends rest → read_value (Signed Percent ∷ Worded kind ∷ rest) ≡ Some (KindValue kind None, rest)
+kind_again : (kind : Word) (rest : List Lexeme) → Ends rest → read_value (Punctuated Percent ∷ Worded kind ∷ rest) ≡ Some (KindValue kind None, rest)
 unfolding read_value
 kind_again kind rest at_end = refl
 kind_again kind rest at_bracket = refl
@@ -88,5 +88,5 @@ pub value_again : (v : Value) (vs rest : List Lexeme) → SpellsValue v vs → E
 unfolding read_value
 value_again v vs rest (value_plain {p} {ps} s) ends = plain_first p ps rest s ∙ rw (plain_again p ps rest s ends) refl
 value_again v vs rest (value_of_kind {kind} {p} {ps} s) ends =
-    rw (append_assoc ps (Signed RightParenthesis ∷ []) rest, plain_again p ps (Signed RightParenthesis ∷ rest) s at_parenthesis) refl
+    rw (append_assoc ps (Punctuated RightParenthesis ∷ []) rest, plain_again p ps (Punctuated RightParenthesis ∷ rest) s at_parenthesis) refl
 value_again v vs rest (value_kind {kind}) ends = kind_again kind rest ends

@@ -6,16 +6,16 @@ use Rattle.c6x_instr.specs.declared.cond_reg.CondReg.TheVariants.{A1}
 use Rattle.c6x_asm_lines.specs.Grammar.{line_of, operands_of, read_address, read_condition, read_head, read_label, read_offset, read_operand, read_value, whole_operand}
 use Rattle.c6x_asm_lines.specs.Lexemes.{class_of, register_of}
 use Rattle.c6x_asm_lines.specs.declared.lexeme.Lexeme.{Lexeme}
-use Rattle.c6x_asm_lines.specs.declared.lexeme.Lexeme.TheVariants.{Word as Worded, Number as Numbered, Sign as Signed}
+use Rattle.c6x_asm_lines.specs.declared.lexeme.Lexeme.TheVariants.{Word as Worded, Number as Numbered, Punctuator as Punctuated}
 use Rattle.c6x_asm_lines.specs.declared.line.Line.{Line}
 use Rattle.c6x_asm_lines.specs.declared.mode.Mode.TheVariants.{Positive, PostDecrement}
 use Rattle.c6x_asm_lines.specs.declared.offset.Offset.TheVariants.{Bracket, Parenthesis}
 use Rattle.c6x_asm_lines.specs.declared.operand.Operand.TheVariants.{Address as AddressOperand, Value as ValueOperand}
-use Rattle.c6x_asm_lines.specs.declared.plain.Plain.TheVariants.{Register as PlainRegister, Number as PlainNumber, Symbol as PlainSymbol}
+use Rattle.c6x_asm_lines.specs.declared.primary.Primary.TheVariants.{Register as PrimaryRegister, Number as PrimaryNumber, Symbol as PrimarySymbol}
 use Rattle.c6x_asm_lines.specs.declared.register.Register.{Register}
-use Rattle.c6x_asm_lines.specs.declared.sign.Sign.TheVariants.{Bang, Bars, Colon, Comma, LeftBracket, LeftParenthesis, Minus, Percent, Plus, RightBracket, RightParenthesis, Star}
+use Rattle.c6x_asm_lines.specs.declared.punctuator.Punctuator.TheVariants.{Bang, ParallelBars, Colon, Comma, LeftBracket, LeftParenthesis, Minus, Percent, Plus, RightBracket, RightParenthesis, Star}
 use Rattle.c6x_asm_lines.specs.declared.value.Value.{Value}
-use Rattle.c6x_asm_lines.specs.declared.value.Value.TheVariants.{Plain as PlainValue, Kind as KindValue}
+use Rattle.c6x_asm_lines.specs.declared.value.Value.TheVariants.{Primary as PrimaryValue, Kind as KindValue}
 use Rattle.c6x_asm_lines.specs.declared.word.Word.{Word}
 use Rattle.c6x_asm_grammar.specs.Spelling.{IsName, number_alone, number_minus, plain_register, plain_number, symbol_minus, value_plain, value_kind, base_register, in_brackets, in_parentheses, ahead_bytes, then_down_by, address_spelled, operand_address, operand_value, one_operand, more_operands, some_operands, no_label, a_label, no_bars, no_condition, is_zero, directive, instruction, statement_spelled, SpellsLine, a_statement}
 use Rattle.c6x_asm_grammar.proofs.Lines.{unspelled}
@@ -25,7 +25,7 @@ word : ℕ → List ℕ → Word
 word at bytes = record { at = at; len = length bytes; class = class_of bytes }
 
 register : Register → Value
-register r = PlainValue (PlainRegister r)
+register r = PrimaryValue (PrimaryRegister r)
 
 a : ℕ → Register
 a n = record { side = A; number = n }
@@ -34,13 +34,13 @@ b : ℕ → Register
 b n = record { side = B; number = n }
 
 number : ℕ → Value
-number n = PlainValue (PlainNumber (record { negative = false; size = Some n }))
+number n = PrimaryValue (PrimaryNumber (record { negative = false; size = Some n }))
 
 -- `x: [!A1] MVK .S1 5,A4`
 labelled : List Lexeme
 labelled =
-    Worded (word 0 (codes "x")) ∷ Signed Colon ∷ Signed LeftBracket ∷ Signed Bang ∷ Worded (word 5 (codes "A1")) ∷ Signed RightBracket
-    ∷ Worded (word 9 (codes "MVK")) ∷ Worded (word 13 (codes ".S1")) ∷ Numbered (Some 5) ∷ Signed Comma ∷ Worded (word 19 (codes "A4")) ∷ []
+    Worded (word 0 (codes "x")) ∷ Punctuated Colon ∷ Punctuated LeftBracket ∷ Punctuated Bang ∷ Worded (word 5 (codes "A1")) ∷ Punctuated RightBracket
+    ∷ Worded (word 9 (codes "MVK")) ∷ Worded (word 13 (codes ".S1")) ∷ Numbered (Some 5) ∷ Punctuated Comma ∷ Worded (word 19 (codes "A4")) ∷ []
 
 labelled_line : Line
 labelled_line = record {
@@ -69,8 +69,8 @@ labelled_spelled =
 -- `STW .D2T2 B3,*B15--[2]`
 stored : List Lexeme
 stored =
-    Worded (word 0 (codes "STW")) ∷ Worded (word 4 (codes ".D2T2")) ∷ Worded (word 10 (codes "B3")) ∷ Signed Comma ∷ Signed Star
-    ∷ Worded (word 14 (codes "B15")) ∷ Signed Minus ∷ Signed Minus ∷ Signed LeftBracket ∷ Numbered (Some 2) ∷ Signed RightBracket ∷ []
+    Worded (word 0 (codes "STW")) ∷ Worded (word 4 (codes ".D2T2")) ∷ Worded (word 10 (codes "B3")) ∷ Punctuated Comma ∷ Punctuated Star
+    ∷ Worded (word 14 (codes "B15")) ∷ Punctuated Minus ∷ Punctuated Minus ∷ Punctuated LeftBracket ∷ Numbered (Some 2) ∷ Punctuated RightBracket ∷ []
 
 stored_line : Line
 stored_line = record {
@@ -96,8 +96,8 @@ stored_spelled =
 -- `LDW .D2T2 *+B14(%dsbt_index),B14`
 loaded : List Lexeme
 loaded =
-    Worded (word 0 (codes "LDW")) ∷ Worded (word 4 (codes ".D2T2")) ∷ Signed Star ∷ Signed Plus ∷ Worded (word 12 (codes "B14"))
-    ∷ Signed LeftParenthesis ∷ Signed Percent ∷ Worded (word 17 (codes "dsbt_index")) ∷ Signed RightParenthesis ∷ Signed Comma
+    Worded (word 0 (codes "LDW")) ∷ Worded (word 4 (codes ".D2T2")) ∷ Punctuated Star ∷ Punctuated Plus ∷ Worded (word 12 (codes "B14"))
+    ∷ Punctuated LeftParenthesis ∷ Punctuated Percent ∷ Worded (word 17 (codes "dsbt_index")) ∷ Punctuated RightParenthesis ∷ Punctuated Comma
     ∷ Worded (word 29 (codes "B14")) ∷ []
 
 loaded_line : Line
@@ -124,14 +124,14 @@ loaded_spelled =
 
 -- `.word x--4`, whose addend is 4
 turned_twice : List Lexeme
-turned_twice = Worded (word 0 (codes ".word")) ∷ Worded (word 6 (codes "x")) ∷ Signed Minus ∷ Signed Minus ∷ Numbered (Some 4) ∷ []
+turned_twice = Worded (word 0 (codes ".word")) ∷ Worded (word 6 (codes "x")) ∷ Punctuated Minus ∷ Punctuated Minus ∷ Numbered (Some 4) ∷ []
 
 turned_line : Line
 turned_line = record {
   label = None;
   statement = Some (record {
     head = record { chained = false; condition = Always; word = word 0 (codes ".word"); unit = None };
-    operands = ValueOperand (PlainValue (PlainSymbol (word 6 (codes "x")) (Some (record { negative = false; size = Some 4 })))) ∷ [];
+    operands = ValueOperand (PrimaryValue (PrimarySymbol (word 6 (codes "x")) (Some (record { negative = false; size = Some 4 })))) ∷ [];
   });
 }
 
@@ -148,8 +148,8 @@ turned_spelled =
 -- `LDW .D2T2 *B14[1],B5`: no mode is spelled so
 unsigned : List Lexeme
 unsigned =
-    Worded (word 0 (codes "LDW")) ∷ Worded (word 4 (codes ".D2T2")) ∷ Signed Star ∷ Worded (word 11 (codes "B14")) ∷ Signed LeftBracket
-    ∷ Numbered (Some 1) ∷ Signed RightBracket ∷ Signed Comma ∷ Worded (word 18 (codes "B5")) ∷ []
+    Worded (word 0 (codes "LDW")) ∷ Worded (word 4 (codes ".D2T2")) ∷ Punctuated Star ∷ Worded (word 11 (codes "B14")) ∷ Punctuated LeftBracket
+    ∷ Numbered (Some 1) ∷ Punctuated RightBracket ∷ Punctuated Comma ∷ Worded (word 18 (codes "B5")) ∷ []
 
 unsigned_spells_nothing : (line : Line) → SpellsLine line unsigned → ⊥
 unfolding line_of read_label read_head read_condition operands_of whole_operand read_operand read_address read_offset read_value class_of register_of word unsigned
@@ -158,7 +158,7 @@ unsigned_spells_nothing = unspelled unsigned refl
 -- `.word %abs32(1`: the parenthesis is not closed
 unclosed : List Lexeme
 unclosed =
-    Worded (word 0 (codes ".word")) ∷ Signed Percent ∷ Worded (word 7 (codes "abs32")) ∷ Signed LeftParenthesis ∷ Numbered (Some 1) ∷ []
+    Worded (word 0 (codes ".word")) ∷ Punctuated Percent ∷ Worded (word 7 (codes "abs32")) ∷ Punctuated LeftParenthesis ∷ Numbered (Some 1) ∷ []
 
 unclosed_spells_nothing : (line : Line) → SpellsLine line unclosed → ⊥
 unfolding line_of read_label read_head read_condition operands_of whole_operand read_operand read_value class_of register_of word unclosed
@@ -166,7 +166,7 @@ unclosed_spells_nothing = unspelled unclosed refl
 
 -- `|| .word 1`: a directive is in no packet
 chained_directive : List Lexeme
-chained_directive = Signed Bars ∷ Worded (word 3 (codes ".word")) ∷ Numbered (Some 1) ∷ []
+chained_directive = Punctuated ParallelBars ∷ Worded (word 3 (codes ".word")) ∷ Numbered (Some 1) ∷ []
 
 chained_spells_nothing : (line : Line) → SpellsLine line chained_directive → ⊥
 unfolding line_of read_label read_head read_condition class_of register_of word chained_directive

@@ -6,7 +6,7 @@ use Rattle.c6x_instr.specs.declared.cond.Cond.TheVariants.{Always, If}
 use Rattle.c6x_instr.specs.declared.cond_reg.CondReg.{CondReg}
 use Rattle.c6x_instr.specs.declared.cond_reg.CondReg.TheVariants.{B0, B1, B2, A1, A2, A0}
 use Rattle.c6x_asm_lines.specs.declared.address.Address.{Address}
-use Rattle.c6x_asm_lines.specs.declared.head.Head.{Head}
+use Rattle.c6x_asm_lines.specs.declared.statement_head.StatementHead.{StatementHead}
 use Rattle.c6x_asm_lines.specs.declared.line.Line.{Line}
 use Rattle.c6x_asm_lines.specs.declared.line.Statement.{Statement}
 use Rattle.c6x_asm_lines.specs.declared.mode.Mode.{Mode}
@@ -16,15 +16,15 @@ use Rattle.c6x_asm_lines.specs.declared.offset.Offset.TheVariants.{Missing, Brac
 use Rattle.c6x_asm_lines.specs.declared.operand.Operand.{Operand}
 use Rattle.c6x_asm_lines.specs.declared.operand.Operand.TheVariants.{Text as TextOperand, Address as AddressOperand, Value as ValueOperand}
 use Rattle.c6x_asm_lines.specs.declared.value.Value.{Value}
-use Rattle.c6x_asm_lines.specs.declared.value.Value.TheVariants.{Plain as PlainValue, Kind as KindValue}
+use Rattle.c6x_asm_lines.specs.declared.value.Value.TheVariants.{Primary as PrimaryValue, Kind as KindValue}
 use Rattle.c6x_asm_lines.specs.declared.register.Register.{Register}
-use Rattle.c6x_asm_lines.specs.declared.sign.Sign.{Sign}
-use Rattle.c6x_asm_lines.specs.declared.sign.Sign.TheVariants.{Colon, Comma, LeftBracket, RightBracket, LeftParenthesis, RightParenthesis, Star, Plus, Minus, Bang, Percent, Bars}
+use Rattle.c6x_asm_lines.specs.declared.punctuator.Punctuator.{Punctuator}
+use Rattle.c6x_asm_lines.specs.declared.punctuator.Punctuator.TheVariants.{Colon, Comma, LeftBracket, RightBracket, LeftParenthesis, RightParenthesis, Star, Plus, Minus, Bang, Percent, ParallelBars}
 use Rattle.c6x_asm_lines.specs.declared.lexeme.Lexeme.{Lexeme}
-use Rattle.c6x_asm_lines.specs.declared.lexeme.Lexeme.TheVariants.{Word as Worded, Number as Numbered, Text, Sign as Signed}
+use Rattle.c6x_asm_lines.specs.declared.lexeme.Lexeme.TheVariants.{Word as Worded, Number as Numbered, Text, Punctuator as Punctuated}
 use Rattle.c6x_asm_lines.specs.declared.number.Number.{Number}
-use Rattle.c6x_asm_lines.specs.declared.plain.Plain.{Plain}
-use Rattle.c6x_asm_lines.specs.declared.plain.Plain.TheVariants.{Register as PlainRegister, Number as PlainNumber, Symbol as PlainSymbol}
+use Rattle.c6x_asm_lines.specs.declared.primary.Primary.{Primary}
+use Rattle.c6x_asm_lines.specs.declared.primary.Primary.TheVariants.{Register as PrimaryRegister, Number as PrimaryNumber, Symbol as PrimarySymbol}
 use Rattle.c6x_asm_lines.specs.declared.word.Word.{Word}
 use Rattle.c6x_asm_lines.specs.declared.word.WordClass.TheVariants.{Register as RegisterClass, Dotted, Nop}
 
@@ -39,21 +39,21 @@ opposite n = record { negative = not n.negative; size = n.size }
 -- "Numbers": digits, and a `-` before them or none
 pub data SpellsNumber : Number → List Lexeme → Type 0 where
   number_alone : {size : Option ℕ} → SpellsNumber (record { negative = false; size = size }) (Numbered size ∷ [])
-  number_minus : {size : Option ℕ} → SpellsNumber (record { negative = true; size = size }) (Signed Minus ∷ Numbered size ∷ [])
+  number_minus : {size : Option ℕ} → SpellsNumber (record { negative = true; size = size }) (Punctuated Minus ∷ Numbered size ∷ [])
 
 -- "Expressions": a register; a number; a symbol, or a symbol, `+` or `-`, and a number
-pub data SpellsPlain : Plain → List Lexeme → Type 0 where
-  plain_register : {word : Word} {register : Register} → word.class ≡ RegisterClass register → SpellsPlain (PlainRegister register) (Worded word ∷ [])
-  plain_number : {n : Number} {ns : List Lexeme} → SpellsNumber n ns → SpellsPlain (PlainNumber n) ns
-  symbol_alone : {name : Word} → IsName name → SpellsPlain (PlainSymbol name None) (Worded name ∷ [])
-  symbol_plus : {name : Word} {n : Number} {ns : List Lexeme} → IsName name → SpellsNumber n ns → SpellsPlain (PlainSymbol name (Some n)) (Worded name ∷ Signed Plus ∷ ns)
-  symbol_minus : {name : Word} {n : Number} {ns : List Lexeme} → IsName name → SpellsNumber n ns → SpellsPlain (PlainSymbol name (Some (opposite n))) (Worded name ∷ Signed Minus ∷ ns)
+pub data SpellsPlain : Primary → List Lexeme → Type 0 where
+  plain_register : {word : Word} {register : Register} → word.class ≡ RegisterClass register → SpellsPlain (PrimaryRegister register) (Worded word ∷ [])
+  plain_number : {n : Number} {ns : List Lexeme} → SpellsNumber n ns → SpellsPlain (PrimaryNumber n) ns
+  symbol_alone : {name : Word} → IsName name → SpellsPlain (PrimarySymbol name None) (Worded name ∷ [])
+  symbol_plus : {name : Word} {n : Number} {ns : List Lexeme} → IsName name → SpellsNumber n ns → SpellsPlain (PrimarySymbol name (Some n)) (Worded name ∷ Punctuated Plus ∷ ns)
+  symbol_minus : {name : Word} {n : Number} {ns : List Lexeme} → IsName name → SpellsNumber n ns → SpellsPlain (PrimarySymbol name (Some (opposite n))) (Worded name ∷ Punctuated Minus ∷ ns)
 
 -- "Expressions": with no kind; `%kind(expression)`; `%kind` alone
 pub data SpellsValue : Value → List Lexeme → Type 0 where
-  value_plain : {p : Plain} {ps : List Lexeme} → SpellsPlain p ps → SpellsValue (PlainValue p) ps
-  value_of_kind : {kind : Word} {p : Plain} {ps : List Lexeme} → SpellsPlain p ps → SpellsValue (KindValue kind (Some p)) (Signed Percent ∷ Worded kind ∷ Signed LeftParenthesis ∷ ps ++ (Signed RightParenthesis ∷ []))
-  value_kind : {kind : Word} → SpellsValue (KindValue kind None) (Signed Percent ∷ Worded kind ∷ [])
+  value_plain : {p : Primary} {ps : List Lexeme} → SpellsPlain p ps → SpellsValue (PrimaryValue p) ps
+  value_of_kind : {kind : Word} {p : Primary} {ps : List Lexeme} → SpellsPlain p ps → SpellsValue (KindValue kind (Some p)) (Punctuated Percent ∷ Worded kind ∷ Punctuated LeftParenthesis ∷ ps ++ (Punctuated RightParenthesis ∷ []))
+  value_kind : {kind : Word} → SpellsValue (KindValue kind None) (Punctuated Percent ∷ Worded kind ∷ [])
 
 -- "Addresses": the base is a register, or a name in its place
 pub data SpellsBase : Option Register → Word → Type 0 where
@@ -63,11 +63,11 @@ pub data SpellsBase : Option Register → Word → Type 0 where
 -- "Addresses": what stands behind the base and its signs
 pub data SpellsOffset : Offset → List Lexeme → Type 0 where
   no_offset : SpellsOffset Missing []
-  in_brackets : {v : Value} {vs : List Lexeme} → SpellsValue v vs → SpellsOffset (Bracket v) (Signed LeftBracket ∷ vs ++ (Signed RightBracket ∷ []))
-  in_parentheses : {v : Value} {vs : List Lexeme} → SpellsValue v vs → SpellsOffset (Parenthesis v) (Signed LeftParenthesis ∷ vs ++ (Signed RightParenthesis ∷ []))
+  in_brackets : {v : Value} {vs : List Lexeme} → SpellsValue v vs → SpellsOffset (Bracket v) (Punctuated LeftBracket ∷ vs ++ (Punctuated RightBracket ∷ []))
+  in_parentheses : {v : Value} {vs : List Lexeme} → SpellsValue v vs → SpellsOffset (Parenthesis v) (Punctuated LeftParenthesis ∷ vs ++ (Punctuated RightParenthesis ∷ []))
 
 -- "Addresses": the twelve shapes, by the signs before the base, those behind it, and the offset
-pub data SpellsMode : Mode → List Sign → List Sign → Offset → Type 0 where
+pub data SpellsMode : Mode → List Punctuator → List Punctuator → Offset → Type 0 where
   -- `*R`
   at_base : SpellsMode Positive [] [] Missing
   -- `*+R[c]`, `*+R(n)`, `*-R[c]`
@@ -87,18 +87,18 @@ pub data SpellsMode : Mode → List Sign → List Sign → Offset → Type 0 whe
 
 -- "Addresses": what follows the `*`
 pub data SpellsAddress : Address → List Lexeme → Type 0 where
-  address_spelled : {base : Option Register} {word : Word} {mode : Mode} {offset : Offset} {before behind : List Sign} {os : List Lexeme} → SpellsBase base word → SpellsMode mode before behind offset → SpellsOffset offset os → SpellsAddress (record { base = base; mode = mode; offset = offset }) (map Signed before ++ (Worded word ∷ map Signed behind ++ os))
+  address_spelled : {base : Option Register} {word : Word} {mode : Mode} {offset : Offset} {before behind : List Punctuator} {os : List Lexeme} → SpellsBase base word → SpellsMode mode before behind offset → SpellsOffset offset os → SpellsAddress (record { base = base; mode = mode; offset = offset }) (map Punctuated before ++ (Worded word ∷ map Punctuated behind ++ os))
 
 -- "Operands": a text, an address or a value
 pub data SpellsOperand : Operand → List Lexeme → Type 0 where
   operand_text : {at len : ℕ} → SpellsOperand (TextOperand at len) (Text at len ∷ [])
-  operand_address : {a : Address} {xs : List Lexeme} → SpellsAddress a xs → SpellsOperand (AddressOperand a) (Signed Star ∷ xs)
+  operand_address : {a : Address} {xs : List Lexeme} → SpellsAddress a xs → SpellsOperand (AddressOperand a) (Punctuated Star ∷ xs)
   operand_value : {v : Value} {vs : List Lexeme} → SpellsValue v vs → SpellsOperand (ValueOperand v) vs
 
 -- "Lines": operands with commas between them
 pub data SpellsList : List Operand → List Lexeme → Type 0 where
   one_operand : {o : Operand} {xs : List Lexeme} → SpellsOperand o xs → SpellsList (o ∷ []) xs
-  more_operands : {o : Operand} {os : List Operand} {xs ys : List Lexeme} → SpellsOperand o xs → SpellsList os ys → SpellsList (o ∷ os) (xs ++ (Signed Comma ∷ ys))
+  more_operands : {o : Operand} {os : List Operand} {xs ys : List Lexeme} → SpellsOperand o xs → SpellsList os ys → SpellsList (o ∷ os) (xs ++ (Punctuated Comma ∷ ys))
 
 pub data SpellsOperands : List Operand → List Lexeme → Type 0 where
   no_operands : SpellsOperands [] []
@@ -107,12 +107,12 @@ pub data SpellsOperands : List Operand → List Lexeme → Type 0 where
 -- "Lines": a label, or none
 pub data SpellsLabel : Option Word → List Lexeme → Type 0 where
   no_label : SpellsLabel None []
-  a_label : {name : Word} → IsName name → SpellsLabel (Some name) (Worded name ∷ Signed Colon ∷ [])
+  a_label : {name : Word} → IsName name → SpellsLabel (Some name) (Worded name ∷ Punctuated Colon ∷ [])
 
 -- "Lines": `||`, or not
 pub data SpellsBars : Bool → List Lexeme → Type 0 where
   no_bars : SpellsBars false []
-  some_bars : SpellsBars true (Signed Bars ∷ [])
+  some_bars : SpellsBars true (Punctuated ParallelBars ∷ [])
 
 -- "Lines": the registers that a condition may test
 abbrev pub tested : CondReg → Register
@@ -126,18 +126,18 @@ tested A2 = record { side = A; number = 2 }
 -- "Lines": none; `[R]`, where R is not zero; `[!R]`, where it is zero
 pub data SpellsCondition : Cond → List Lexeme → Type 0 where
   no_condition : SpellsCondition Always []
-  not_zero : {register : CondReg} {word : Word} → word.class ≡ RegisterClass (tested register) → SpellsCondition (If register false) (Signed LeftBracket ∷ Worded word ∷ Signed RightBracket ∷ [])
-  is_zero : {register : CondReg} {word : Word} → word.class ≡ RegisterClass (tested register) → SpellsCondition (If register true) (Signed LeftBracket ∷ Signed Bang ∷ Worded word ∷ Signed RightBracket ∷ [])
+  not_zero : {register : CondReg} {word : Word} → word.class ≡ RegisterClass (tested register) → SpellsCondition (If register false) (Punctuated LeftBracket ∷ Worded word ∷ Punctuated RightBracket ∷ [])
+  is_zero : {register : CondReg} {word : Word} → word.class ≡ RegisterClass (tested register) → SpellsCondition (If register true) (Punctuated LeftBracket ∷ Punctuated Bang ∷ Worded word ∷ Punctuated RightBracket ∷ [])
 
 -- "Lines": a directive; or `||`, a condition and NOP; or these, another mnemonic and its unit
-pub data SpellsHead : Head → List Lexeme → Type 0 where
+pub data SpellsHead : StatementHead → List Lexeme → Type 0 where
   directive : {word : Word} → word.class ≡ Dotted → SpellsHead (record { chained = false; condition = Always; word = word; unit = None }) (Worded word ∷ [])
   no_operation : {chained : Bool} {condition : Cond} {word : Word} {bars cs : List Lexeme} → SpellsBars chained bars → SpellsCondition condition cs → word.class ≡ Nop → SpellsHead (record { chained = chained; condition = condition; word = word; unit = None }) (bars ++ (cs ++ (Worded word ∷ [])))
   instruction : {chained : Bool} {condition : Cond} {word unit : Word} {bars cs : List Lexeme} → SpellsBars chained bars → SpellsCondition condition cs → word.class ≢ Dotted → word.class ≢ Nop → unit.class ≡ Dotted → SpellsHead (record { chained = chained; condition = condition; word = word; unit = Some unit }) (bars ++ (cs ++ (Worded word ∷ Worded unit ∷ [])))
 
 -- "Lines": an instruction or a directive with its operands
 pub data SpellsStatement : Statement → List Lexeme → Type 0 where
-  statement_spelled : {head : Head} {operands : List Operand} {hs os : List Lexeme} → SpellsHead head hs → SpellsOperands operands os → SpellsStatement (record { head = head; operands = operands }) (hs ++ os)
+  statement_spelled : {head : StatementHead} {operands : List Operand} {hs os : List Lexeme} → SpellsHead head hs → SpellsOperands operands os → SpellsStatement (record { head = head; operands = operands }) (hs ++ os)
 
 -- "Lines": a label, if there is one, then a statement, if there is one
 pub data SpellsLine : Line → List Lexeme → Type 0 where

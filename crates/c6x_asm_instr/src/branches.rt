@@ -2,8 +2,8 @@ ghost use Rattle.std.specs.Prelude.{◌≡◌, ◌<◌, ◌≤◌, IfOk};
 ghost use Rattle.c6x_asm_instr.specs.Instructions.{is_register, target_register, takes_register, branch_of, branch_nop_of, link_register, callp_of, add_kpc_of, nop_of};
 
 use crate::units::is_cross;
-use c6x_asm_lines::{AsmRule, both, Operand, Plain, Value};
-use c6x_asm_operands::{constant_operand, field_operand, Made, Range, register_operand, same_side, Unit};
+use c6x_asm_lines::{AsmRule, both, Operand, Primary, Value};
+use c6x_asm_operands::{constant_operand, field_operand, RelocatableOp, Range, register_operand, same_side, Unit};
 use c6x_base::Side;
 use c6x_instr::Op;
 use c6x_reloc::RelocKind;
@@ -52,7 +52,7 @@ fn is_register(operand: Operand) -> bool
     ensures { result ≡ is_register operand }
 {
     match operand {
-        Operand::Value(Value::Plain(Plain::Register(_))) => true,
+        Operand::Value(Value::Primary(Primary::Register(_))) => true,
         _ => false,
     }
 }
@@ -80,7 +80,7 @@ fn target_register(unit: Unit, target: Operand) -> Result<u8, AsmRule>
 }
 
 /// B.
-pub fn branch_of(text: &[u8], unit: Unit, operands: &[Operand]) -> Result<Made, AsmRule>
+pub fn branch_of(text: &[u8], unit: Unit, operands: &[Operand]) -> Result<RelocatableOp, AsmRule>
     ensures { result ≡ branch_of text.now unit operands.now }
 {
     match operands {
@@ -91,7 +91,7 @@ pub fn branch_of(text: &[u8], unit: Unit, operands: &[Operand]) -> Result<Made, 
                     cross: is_cross(unit.path),
                     source,
                 };
-                Ok(Made {
+                Ok(RelocatableOp {
                     op,
                     relocation: None,
                 })
@@ -101,7 +101,7 @@ pub fn branch_of(text: &[u8], unit: Unit, operands: &[Operand]) -> Result<Made, 
                     side: unit.side,
                     field: field.bits,
                 };
-                Ok(Made {
+                Ok(RelocatableOp {
                     op,
                     relocation: field.relocation,
                 })
@@ -112,7 +112,7 @@ pub fn branch_of(text: &[u8], unit: Unit, operands: &[Operand]) -> Result<Made, 
 }
 
 /// BNOP.
-pub fn branch_nop_of(text: &[u8], unit: Unit, operands: &[Operand]) -> Result<Made, AsmRule>
+pub fn branch_nop_of(text: &[u8], unit: Unit, operands: &[Operand]) -> Result<RelocatableOp, AsmRule>
     ensures { result ≡ branch_nop_of text.now unit operands.now }
 {
     match operands {
@@ -125,7 +125,7 @@ pub fn branch_nop_of(text: &[u8], unit: Unit, operands: &[Operand]) -> Result<Ma
                     source,
                     wait: wait as u8,
                 };
-                Ok(Made {
+                Ok(RelocatableOp {
                     op,
                     relocation: None,
                 })
@@ -137,7 +137,7 @@ pub fn branch_nop_of(text: &[u8], unit: Unit, operands: &[Operand]) -> Result<Ma
                     field: field.bits as u16,
                     wait: wait as u8,
                 };
-                Ok(Made {
+                Ok(RelocatableOp {
                     op,
                     relocation: field.relocation,
                 })
@@ -159,7 +159,7 @@ fn link_register(side: Side, operand: Operand) -> Result<u8, AsmRule>
 }
 
 /// CALLP.
-pub fn callp_of(text: &[u8], unit: Unit, operands: &[Operand]) -> Result<Made, AsmRule>
+pub fn callp_of(text: &[u8], unit: Unit, operands: &[Operand]) -> Result<RelocatableOp, AsmRule>
     ensures { result ≡ callp_of text.now unit operands.now }
 {
     match operands {
@@ -170,7 +170,7 @@ pub fn callp_of(text: &[u8], unit: Unit, operands: &[Operand]) -> Result<Made, A
                 side: unit.side,
                 field: field.bits,
             };
-            Ok(Made {
+            Ok(RelocatableOp {
                 op,
                 relocation: field.relocation,
             })
@@ -180,7 +180,7 @@ pub fn callp_of(text: &[u8], unit: Unit, operands: &[Operand]) -> Result<Made, A
 }
 
 /// ADDKPC.
-pub fn add_kpc_of(text: &[u8], operands: &[Operand]) -> Result<Made, AsmRule>
+pub fn add_kpc_of(text: &[u8], operands: &[Operand]) -> Result<RelocatableOp, AsmRule>
     ensures { result ≡ add_kpc_of text.now operands.now }
 {
     match operands {
@@ -194,7 +194,7 @@ pub fn add_kpc_of(text: &[u8], operands: &[Operand]) -> Result<Made, AsmRule>
                 wait: wait as u8,
                 dst,
             };
-            Ok(Made {
+            Ok(RelocatableOp {
                 op,
                 relocation: field.relocation,
             })
@@ -204,17 +204,17 @@ pub fn add_kpc_of(text: &[u8], operands: &[Operand]) -> Result<Made, AsmRule>
 }
 
 /// NOP, of one cycle where no number follows it.
-pub fn nop_of(operands: &[Operand]) -> Result<Made, AsmRule>
+pub fn nop_of(operands: &[Operand]) -> Result<RelocatableOp, AsmRule>
     ensures { result ≡ nop_of operands.now }
 {
     match operands {
-        [] => Ok(Made {
+        [] => Ok(RelocatableOp {
             op: Op::Nop { cycles: 1 },
             relocation: None,
         }),
         [cycles] => {
             let cycles = constant_operand(CYCLES, *cycles)?;
-            Ok(Made {
+            Ok(RelocatableOp {
                 op: Op::Nop {
                     cycles: cycles as u8,
                 },

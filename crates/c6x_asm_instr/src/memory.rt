@@ -3,7 +3,7 @@ ghost use Rattle.c6x_instr.specs.Values.{size_of};
 ghost use Rattle.c6x_asm_instr.specs.Instructions.{is_store, memory_made, memory_with, memory_on};
 
 use c6x_asm_lines::{AsmRule, both, Operand};
-use c6x_asm_operands::{Made, Path, Place, place_of, register_operand};
+use c6x_asm_operands::{RelocatableOp, DataPath, Place, place_of, register_operand};
 use c6x_base::Side;
 use c6x_instr::{Access, Op};
 
@@ -31,7 +31,7 @@ fn memory_made(
     value_side: Side,
     register: u8,
     place: Place,
-) -> Made
+) -> RelocatableOp
     ensures { result ≡ memory_made access unit_side value_side register place }
 {
     match place {
@@ -45,7 +45,7 @@ fn memory_made(
                 base,
                 register,
             };
-            Made {
+            RelocatableOp {
                 op,
                 relocation: None,
             }
@@ -62,7 +62,7 @@ fn memory_made(
                 offset,
                 register,
             };
-            Made { op, relocation }
+            RelocatableOp { op, relocation }
         }
     }
 }
@@ -75,7 +75,7 @@ fn memory_with(
     value_side: Side,
     address: Operand,
     value: Operand,
-) -> Result<Made, AsmRule>
+) -> Result<RelocatableOp, AsmRule>
     ensures { result ≡ memory_with text.now access unit_side value_side address value }
 {
     let place = place_of(text, size_of(access), unit_side, address);
@@ -88,13 +88,13 @@ pub fn memory_on(
     text: &[u8],
     access: Access,
     side: Side,
-    path: Path,
+    path: DataPath,
     operands: &[Operand],
-) -> Result<Made, AsmRule>
+) -> Result<RelocatableOp, AsmRule>
     ensures { result ≡ memory_on text.now access side path operands.now }
 {
     match (path, operands) {
-        (Path::Value(value_side), [x, y]) => {
+        (DataPath::Value(value_side), [x, y]) => {
             if is_store(access) {
                 memory_with(text, access, side, value_side, *y, *x)
             } else {

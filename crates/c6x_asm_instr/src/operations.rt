@@ -2,8 +2,8 @@ ghost use Rattle.std.specs.Prelude.{◌≡◌, ◌<◌, ◌≤◌, length, IfOk}
 ghost use Rattle.c6x_asm_instr.specs.Instructions.{first_range, first_of, second_side, two_with, two_of, move_field, move_of};
 
 use crate::units::{has_form, is_cross, is_swapped, other_side};
-use c6x_asm_lines::{AsmRule, both, Operand, Plain, Value};
-use c6x_asm_operands::{constant_operand, Field, field_operand, Made, number_in, Range, register_on, register_operand, Unit};
+use c6x_asm_lines::{AsmRule, both, Operand, Primary, Value};
+use c6x_asm_operands::{constant_operand, Field, field_operand, RelocatableOp, number_in, Range, register_on, register_operand, Unit};
 use c6x_base::Side;
 use c6x_instr::{Arith, First, MoveKind, Op, UnitKind};
 use c6x_reloc::RelocKind;
@@ -55,11 +55,11 @@ fn first_of(unit: UnitKind, arith: Arith, side: Side, operand: Operand) -> Resul
     ensures { result ≡ first_of unit arith side operand }
 {
     match operand {
-        Operand::Value(Value::Plain(Plain::Register(register))) => {
+        Operand::Value(Value::Primary(Primary::Register(register))) => {
             let number = register_on(side, register)?;
             Ok(First::Register(number))
         }
-        Operand::Value(Value::Plain(Plain::Number(number))) => {
+        Operand::Value(Value::Primary(Primary::Number(number))) => {
             if has_form(unit, arith, true) {
                 let bits = number_in(first_range(is_swapped(unit, arith)), number)?;
                 Ok(First::Constant(bits as u8))
@@ -88,7 +88,7 @@ fn two_with(
     first: Operand,
     second: Operand,
     dst: Operand,
-) -> Result<Made, AsmRule>
+) -> Result<RelocatableOp, AsmRule>
     ensures { result ≡ two_with arith unit first second dst }
 {
     let first = first_of(unit.kind, arith, unit.side, first);
@@ -104,14 +104,14 @@ fn two_with(
         second,
         dst,
     };
-    Ok(Made {
+    Ok(RelocatableOp {
         op,
         relocation: None,
     })
 }
 
 /// An operation on two operands.
-pub fn two_of(arith: Arith, unit: Unit, operands: &[Operand]) -> Result<Made, AsmRule>
+pub fn two_of(arith: Arith, unit: Unit, operands: &[Operand]) -> Result<RelocatableOp, AsmRule>
     ensures { result ≡ two_of arith unit operands.now }
 {
     match operands {
@@ -150,7 +150,7 @@ pub fn move_of(
     kind: MoveKind,
     unit: Unit,
     operands: &[Operand],
-) -> Result<Made, AsmRule>
+) -> Result<RelocatableOp, AsmRule>
     ensures { result ≡ move_of text.now kind unit operands.now }
 {
     match operands {
@@ -165,7 +165,7 @@ pub fn move_of(
                 constant: field.bits as u16,
                 dst,
             };
-            Ok(Made {
+            Ok(RelocatableOp {
                 op,
                 relocation: field.relocation,
             })

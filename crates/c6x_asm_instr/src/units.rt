@@ -1,7 +1,7 @@
 ghost use Rattle.std.specs.Prelude.{◌≡◌};
 ghost use Rattle.c6x_asm_instr.specs.Instructions.{other_side, is_cross, is_own, names_value, has_form, is_d, is_s, is_swapped};
 
-use c6x_asm_operands::Path;
+use c6x_asm_operands::DataPath;
 use c6x_base::Side;
 use c6x_instr::{Arith, UnitKind};
 
@@ -14,22 +14,22 @@ pub fn other_side(side: Side) -> Side
     }
 }
 
-pub fn is_cross(path: Path) -> bool
+pub fn is_cross(path: DataPath) -> bool
     ensures { result ≡ is_cross path }
 {
-    matches!(path, Path::Cross)
+    matches!(path, DataPath::Cross)
 }
 
-pub fn is_own(path: Path) -> bool
+pub fn is_own(path: DataPath) -> bool
     ensures { result ≡ is_own path }
 {
-    matches!(path, Path::Own)
+    matches!(path, DataPath::Own)
 }
 
-pub fn names_value(path: Path) -> bool
+pub fn names_value(path: DataPath) -> bool
     ensures { result ≡ names_value path }
 {
-    matches!(path, Path::Value(_))
+    matches!(path, DataPath::Value(_))
 }
 
 #[tactic(auto, unfolding(c6x_encoding::specs::Encoded::l_code, c6x_encoding::specs::Encoded::s_code, c6x_encoding::specs::Encoded::d_code, c6x_encoding::specs::Encoded::m_code))]

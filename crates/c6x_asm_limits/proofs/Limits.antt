@@ -9,21 +9,21 @@ use Rattle.std.proofs.lemmas.List.Folds.{list_any-append}
 use Rattle.c6x_base.specs.Rounded.{rounded}
 use Rattle.c6x_elf.specs.Parts.{has_bytes}
 use Rattle.c6x_elf.specs.Writing.{offset_end, offsets_end, written_size}
-use Rattle.c6x_asm_object.specs.declared.part.Part.{Part}
+use Rattle.c6x_asm_object.specs.declared.asm_section.AsmSection.{AsmSection}
 use Rattle.c6x_asm_object.specs.declared.symbol.Symbol.{Symbol}
 use Rattle.c6x_asm_object.specs.Symbols.{names_total}
 use Rattle.c6x_asm_form.specs.Bindings.{is_local}
-use Rattle.c6x_asm_form.specs.Filing.{Named, file_of, named_part, named_relas, named_sections, named_shstrtab, named_strtab, named_symtab, names_of, sections_from, sections_of, symtab_of}
+use Rattle.c6x_asm_form.specs.Filing.{Named, file_of, named_section, named_relas, named_sections, named_shstrtab, named_strtab, named_symtab, names_of, sections_from, sections_of, symtab_of}
 use Rattle.c6x_asm_form.specs.Headers.{null_section, table_section}
 use Rattle.c6x_asm_form.specs.Limits.{is_large, is_long, passes_limit}
 use Rattle.c6x_asm_form.specs.Symbols.{name_table, symbol_numbers, symbol_table}
 use Rattle.c6x_asm_form.proofs.Lengths.{length-symbol_table}
 use Rattle.c6x_asm_limits.specs.declared.summary.Summary.{Summary}
-use Rattle.c6x_asm_limits.specs.Places.{parts_end}
+use Rattle.c6x_asm_limits.specs.Places.{sections_end}
 use Rattle.c6x_asm_limits.specs.Passing.{has_long, name_bytes, passes, section_count, symbol_bytes, whole_size}
-use Rattle.c6x_asm_limits.specs.Sums.{clipped, is_heavy, is_past, part_names, part_rows, part_tables}
+use Rattle.c6x_asm_limits.specs.Sums.{clipped, is_heavy, is_past, names_of_section, rows_of_section, section_tables}
 use Rattle.c6x_asm_limits.proofs.Lengths.{length-name_table}
-use Rattle.c6x_asm_limits.proofs.Sections.{any_long, end_table, ends_all, ends_all-append, ends_parts, ends_relas, length_relas, long_heavy, long_table, names_of-append, names_parts}
+use Rattle.c6x_asm_limits.proofs.Sections.{any_long, end_table, ends_all, ends_all-append, ends_named, ends_relas, length_relas, long_heavy, long_table, names_of-append, names_sections}
 use Rattle.c6x_asm_limits.proofs.Summaries.{Tells}
 
 -- the sections of the file
@@ -61,24 +61,24 @@ past_all : (none : Bool) (n count end at : ℕ) (long other : Bool) → none ≡
 past_all none n count end at long other is counted same ends = rw (is, counted, same, ends) refl
 
 -- the sections with their names
-abbrev all_named : List ℕ → List Part → List Symbol → List Named
-all_named text parts symbols = named_sections text parts symbols ++ (named_shstrtab (named_sections text parts symbols) ∷ [])
+abbrev all_named : List ℕ → List AsmSection → List Symbol → List Named
+all_named text sections symbols = named_sections text sections symbols ++ (named_shstrtab (named_sections text sections symbols) ∷ [])
 
-large_past : (text : List ℕ) (parts : List Part) (symbols : List Symbol) → is_large text parts symbols ≡ pasts (suc (length (all_named text parts symbols))) (any_long (all_named text parts symbols)) (ends_all 52 (all_named text parts symbols))
+large_past : (text : List ℕ) (sections : List AsmSection) (symbols : List Symbol) → is_large text sections symbols ≡ pasts (suc (length (all_named text sections symbols))) (any_long (all_named text sections symbols)) (ends_all 52 (all_named text sections symbols))
 unfolding is_large passes_limit file_of sections_of written_size
-large_past text parts symbols =
-    let named = all_named text parts symbols in
-    let sections = sections_from 1 named in
-    past_all (suc (length sections) == 0) (suc (length sections)) (suc (length named)) (offsets_end 52 (null_section ∷ sections)) (ends_all 52 named)
-    (list_any is_long (null_section ∷ sections)) (any_long named)
-    (some_not_none (length sections)) (ap suc (length-sections_from 1 named)) (long_null named) (end_null named)
+large_past text sections symbols =
+    let named = all_named text sections symbols in
+    let listed = sections_from 1 named in
+    past_all (suc (length listed) == 0) (suc (length listed)) (suc (length named)) (offsets_end 52 (null_section ∷ listed)) (ends_all 52 named)
+    (list_any is_long (null_section ∷ listed)) (any_long named)
+    (some_not_none (length listed)) (ap suc (length-sections_from 1 named)) (long_null named) (end_null named)
 
 -- the tables
-abbrev relas : List ℕ → List Part → List Symbol → List Named
-relas text parts symbols = named_relas text (symbol_numbers (length parts) symbols) (symtab_of parts) 1 parts
+abbrev relas : List ℕ → List AsmSection → List Symbol → List Named
+relas text sections symbols = named_relas text (symbol_numbers (length sections) symbols) (symtab_of sections) 1 sections
 
-abbrev tables : List ℕ → List Part → List Symbol → List Named
-tables text parts symbols = named_symtab text parts symbols ∷ named_strtab text symbols ∷ []
+abbrev tables : List ℕ → List AsmSection → List Symbol → List Named
+tables text sections symbols = named_symtab text sections symbols ∷ named_strtab text symbols ∷ []
 
 stored_symtab : has_bytes 2 ≡ true
 unfolding has_bytes
@@ -88,22 +88,22 @@ stored_strtab : has_bytes 3 ≡ true
 unfolding has_bytes
 stored_strtab = refl
 
-end_symtab : (text : List ℕ) (parts : List Part) (symbols : List Symbol) (at : ℕ) → offset_end at (named_symtab text parts symbols).section ≡ rounded at 4 + symbol_bytes (length parts) (length symbols)
+end_symtab : (text : List ℕ) (sections : List AsmSection) (symbols : List Symbol) (at : ℕ) → offset_end at (named_symtab text sections symbols).section ≡ rounded at 4 + symbol_bytes (length sections) (length symbols)
 unfolding named_symtab
-end_symtab text parts symbols at =
-    end_table at 2 (symtab_of parts + 1) (1 + length parts + count_by is_local symbols) 4 16 (symbol_table text (length parts) symbols) stored_symtab
-    ∙ ap (λ n. rounded at 4 + n) (length-symbol_table text (length parts) symbols)
+end_symtab text sections symbols at =
+    end_table at 2 (symtab_of sections + 1) (1 + length sections + count_by is_local symbols) 4 16 (symbol_table text (length sections) symbols) stored_symtab
+    ∙ ap (λ n. rounded at 4 + n) (length-symbol_table text (length sections) symbols)
 
 end_strtab : (text : List ℕ) (symbols : List Symbol) (at : ℕ) → offset_end at (named_strtab text symbols).section ≡ rounded at 1 + (1 + names_total text symbols)
 unfolding named_strtab
 end_strtab text symbols at =
     end_table at 3 0 0 1 0 (name_table text symbols) stored_strtab ∙ ap (λ n. rounded at 1 + n) (length-name_table text symbols)
 
-long_symtab : (text : List ℕ) (parts : List Part) (symbols : List Symbol) → is_long (named_symtab text parts symbols).section ≡ is_past (symbol_bytes (length parts) (length symbols))
+long_symtab : (text : List ℕ) (sections : List AsmSection) (symbols : List Symbol) → is_long (named_symtab text sections symbols).section ≡ is_past (symbol_bytes (length sections) (length symbols))
 unfolding named_symtab
-long_symtab text parts symbols =
-    long_table 2 (symtab_of parts + 1) (1 + length parts + count_by is_local symbols) 4 16 (symbol_table text (length parts) symbols)
-    ∙ ap is_past (length-symbol_table text (length parts) symbols)
+long_symtab text sections symbols =
+    long_table 2 (symtab_of sections + 1) (1 + length sections + count_by is_local symbols) 4 16 (symbol_table text (length sections) symbols)
+    ∙ ap is_past (length-symbol_table text (length sections) symbols)
 
 long_strtab : (text : List ℕ) (symbols : List Symbol) → is_long (named_strtab text symbols).section ≡ is_past (1 + names_total text symbols)
 unfolding named_strtab
@@ -113,17 +113,17 @@ long_strtab text symbols = long_table 3 0 0 1 0 (name_table text symbols) ∙ ap
 abbrev name_list : List Named → List ℕ
 name_list named = 0 ∷ (names_of named ++ (codes ".shstrtab" ++ (0 ∷ [])))
 
-names_named : (text : List ℕ) (parts : List Part) (symbols : List Symbol) → length (name_list (named_sections text parts symbols)) ≡ name_bytes (sum_by (part_names text) parts)
+names_named : (text : List ℕ) (sections : List AsmSection) (symbols : List Symbol) → length (name_list (named_sections text sections symbols)) ≡ name_bytes (sum_by (names_of_section text) sections)
 unfolding named_sections named_symtab named_strtab
-names_named text parts symbols =
-    let mapped = map (named_part text) parts in
-    let both = relas text parts symbols ++ tables text parts symbols in
+names_named text sections symbols =
+    let mapped = map (named_section text) sections in
+    let both = relas text sections symbols ++ tables text sections symbols in
     omega (
       arith,
       length-append (names_of (mapped ++ both)) (codes ".shstrtab" ++ (0 ∷ [])),
       names_of-append mapped both,
-      names_of-append (relas text parts symbols) (tables text parts symbols),
-      names_parts text (symbol_numbers (length parts) symbols) (symtab_of parts) 1 parts,
+      names_of-append (relas text sections symbols) (tables text sections symbols),
+      names_sections text (symbol_numbers (length sections) symbols) (symtab_of sections) 1 sections,
     )
 
 end_shstrtab : (named : List Named) (at size : ℕ) → length (name_list named) ≡ size → offset_end at (named_shstrtab named).section ≡ rounded at 1 + size
@@ -135,18 +135,18 @@ unfolding named_shstrtab
 long_shstrtab named size is = long_table 3 0 0 1 0 (name_list named) ∙ ap is_past is
 
 -- all of them
-count_all : (text : List ℕ) (parts : List Part) (symbols : List Symbol) → suc (length (all_named text parts symbols)) ≡ section_count (length parts) (sum_by part_tables parts)
+count_all : (text : List ℕ) (sections : List AsmSection) (symbols : List Symbol) → suc (length (all_named text sections symbols)) ≡ section_count (length sections) (sum_by section_tables sections)
 unfolding named_sections
-count_all text parts symbols =
-    let mapped = map (named_part text) parts in
-    let both = relas text parts symbols ++ tables text parts symbols in
+count_all text sections symbols =
+    let mapped = map (named_section text) sections in
+    let both = relas text sections symbols ++ tables text sections symbols in
     omega (
       arith,
       length-append (mapped ++ both) (named_shstrtab (mapped ++ both) ∷ []),
       length-append mapped both,
-      length-append (relas text parts symbols) (tables text parts symbols),
-      length-map parts (named_part text),
-      length_relas text (symbol_numbers (length parts) symbols) (symtab_of parts) 1 parts,
+      length-append (relas text sections symbols) (tables text sections symbols),
+      length-map sections (named_section text),
+      length_relas text (symbol_numbers (length sections) symbols) (symtab_of sections) 1 sections,
     )
 
 any_five : (a b heavy c d e s t u : Bool) → (a || b) ≡ heavy → c ≡ s → d ≡ t → e ≡ u → ((a || (b || (c || (d || false)))) || (e || false)) ≡ (heavy || (s || (t || u)))
@@ -160,50 +160,50 @@ any_five a b heavy c d e s t u one two three four = sym (rw (sym one, sym two, s
     flat false false false false true = refl
     flat false false false false false = refl
 
-split_sections : (text : List ℕ) (parts : List Part) (symbols : List Symbol) → any_long (named_sections text parts symbols) ≡ (any_long (map (named_part text) parts) || (any_long (relas text parts symbols) || any_long (tables text parts symbols)))
+split_sections : (text : List ℕ) (sections : List AsmSection) (symbols : List Symbol) → any_long (named_sections text sections symbols) ≡ (any_long (map (named_section text) sections) || (any_long (relas text sections symbols) || any_long (tables text sections symbols)))
 unfolding named_sections
-split_sections text parts symbols =
-    list_any-append (λ n. is_long n.section) (map (named_part text) parts) (relas text parts symbols ++ tables text parts symbols)
-    ∙ ap (λ b. any_long (map (named_part text) parts) || b) (list_any-append (λ n. is_long n.section) (relas text parts symbols) (tables text parts symbols))
+split_sections text sections symbols =
+    list_any-append (λ n. is_long n.section) (map (named_section text) sections) (relas text sections symbols ++ tables text sections symbols)
+    ∙ ap (λ b. any_long (map (named_section text) sections) || b) (list_any-append (λ n. is_long n.section) (relas text sections symbols) (tables text sections symbols))
 
-long_all : (text : List ℕ) (parts : List Part) (symbols : List Symbol) → any_long (all_named text parts symbols) ≡ (list_any is_heavy parts || (is_past (symbol_bytes (length parts) (length symbols)) || (is_past (1 + names_total text symbols) || is_past (name_bytes (sum_by (part_names text) parts)))))
-long_all text parts symbols =
-    let named = named_sections text parts symbols in
+long_all : (text : List ℕ) (sections : List AsmSection) (symbols : List Symbol) → any_long (all_named text sections symbols) ≡ (list_any is_heavy sections || (is_past (symbol_bytes (length sections) (length symbols)) || (is_past (1 + names_total text symbols) || is_past (name_bytes (sum_by (names_of_section text) sections)))))
+long_all text sections symbols =
+    let named = named_sections text sections symbols in
     list_any-append (λ n. is_long n.section) named (named_shstrtab named ∷ [])
-    ∙ (ap (λ b. b || any_long (named_shstrtab named ∷ [])) (split_sections text parts symbols)
-    ∙ any_five (any_long (map (named_part text) parts)) (any_long (relas text parts symbols)) (list_any is_heavy parts)
-    (is_long (named_symtab text parts symbols).section) (is_long (named_strtab text symbols).section) (is_long (named_shstrtab named).section)
-    (is_past (symbol_bytes (length parts) (length symbols))) (is_past (1 + names_total text symbols)) (is_past (name_bytes (sum_by (part_names text) parts)))
-    (long_heavy text (symbol_numbers (length parts) symbols) (symtab_of parts) 1 parts) (long_symtab text parts symbols) (long_strtab text symbols)
-    (long_shstrtab named (name_bytes (sum_by (part_names text) parts)) (names_named text parts symbols)))
+    ∙ (ap (λ b. b || any_long (named_shstrtab named ∷ [])) (split_sections text sections symbols)
+    ∙ any_five (any_long (map (named_section text) sections)) (any_long (relas text sections symbols)) (list_any is_heavy sections)
+    (is_long (named_symtab text sections symbols).section) (is_long (named_strtab text symbols).section) (is_long (named_shstrtab named).section)
+    (is_past (symbol_bytes (length sections) (length symbols))) (is_past (1 + names_total text symbols)) (is_past (name_bytes (sum_by (names_of_section text) sections)))
+    (long_heavy text (symbol_numbers (length sections) symbols) (symtab_of sections) 1 sections) (long_symtab text sections symbols) (long_strtab text symbols)
+    (long_shstrtab named (name_bytes (sum_by (names_of_section text) sections)) (names_named text sections symbols)))
 
 -- the place behind all
 abbrev last_end : ℕ → ℕ → ℕ → ℕ → ℕ → ℕ
-last_end at rows symbols names section_names = rounded at 4 + rows + symbols + (1 + names) + section_names
+last_end at rows symbols names header_names = rounded at 4 + rows + symbols + (1 + names) + header_names
 
-end_chain : (a b c d e rows symbols names section_names : ℕ) → rounded b 4 ≡ rounded a 4 + rows → c ≡ rounded b 4 + symbols → d ≡ rounded c 1 + (1 + names) → e ≡ rounded d 1 + section_names → e ≡ last_end a rows symbols names section_names
-end_chain a b c d e rows symbols names section_names one two three four = omega (arith, one, two, three, four)
+end_chain : (a b c d e rows symbols names header_names : ℕ) → rounded b 4 ≡ rounded a 4 + rows → c ≡ rounded b 4 + symbols → d ≡ rounded c 1 + (1 + names) → e ≡ rounded d 1 + header_names → e ≡ last_end a rows symbols names header_names
+end_chain a b c d e rows symbols names header_names one two three four = omega (arith, one, two, three, four)
 
-ends_sections : (text : List ℕ) (parts : List Part) (symbols : List Symbol) → ends_all 52 (named_sections text parts symbols) ≡ ends_all (ends_all (parts_end 52 parts) (relas text parts symbols)) (tables text parts symbols)
+ends_sections : (text : List ℕ) (sections : List AsmSection) (symbols : List Symbol) → ends_all 52 (named_sections text sections symbols) ≡ ends_all (ends_all (sections_end 52 sections) (relas text sections symbols)) (tables text sections symbols)
 unfolding named_sections
-ends_sections text parts symbols =
-    ends_all-append 52 (map (named_part text) parts) (relas text parts symbols ++ tables text parts symbols)
-    ∙ (ap (λ at. ends_all at (relas text parts symbols ++ tables text parts symbols)) (ends_parts text 52 parts)
-    ∙ ends_all-append (parts_end 52 parts) (relas text parts symbols) (tables text parts symbols))
+ends_sections text sections symbols =
+    ends_all-append 52 (map (named_section text) sections) (relas text sections symbols ++ tables text sections symbols)
+    ∙ (ap (λ at. ends_all at (relas text sections symbols ++ tables text sections symbols)) (ends_named text 52 sections)
+    ∙ ends_all-append (sections_end 52 sections) (relas text sections symbols) (tables text sections symbols))
 
-end_all : (text : List ℕ) (parts : List Part) (symbols : List Symbol) → ends_all 52 (all_named text parts symbols) ≡ last_end (parts_end 52 parts) (sum_by part_rows parts) (symbol_bytes (length parts) (length symbols)) (names_total text symbols) (name_bytes (sum_by (part_names text) parts))
-end_all text parts symbols =
-    let named = named_sections text parts symbols in
-    let size = name_bytes (sum_by (part_names text) parts) in
-    let behind = ends_all (parts_end 52 parts) (relas text parts symbols) in
-    let third = offset_end behind (named_symtab text parts symbols).section in
+end_all : (text : List ℕ) (sections : List AsmSection) (symbols : List Symbol) → ends_all 52 (all_named text sections symbols) ≡ last_end (sections_end 52 sections) (sum_by rows_of_section sections) (symbol_bytes (length sections) (length symbols)) (names_total text symbols) (name_bytes (sum_by (names_of_section text) sections))
+end_all text sections symbols =
+    let named = named_sections text sections symbols in
+    let size = name_bytes (sum_by (names_of_section text) sections) in
+    let behind = ends_all (sections_end 52 sections) (relas text sections symbols) in
+    let third = offset_end behind (named_symtab text sections symbols).section in
     let fourth = offset_end third (named_strtab text symbols).section in
     ends_all-append 52 named (named_shstrtab named ∷ [])
-    ∙ (ap (λ at. offset_end at (named_shstrtab named).section) (ends_sections text parts symbols)
-    ∙ end_chain (parts_end 52 parts) behind third fourth (offset_end fourth (named_shstrtab named).section)
-    (sum_by part_rows parts) (symbol_bytes (length parts) (length symbols)) (names_total text symbols) size
-    (ends_relas text (symbol_numbers (length parts) symbols) (symtab_of parts) 1 (parts_end 52 parts) parts)
-    (end_symtab text parts symbols behind) (end_strtab text symbols third) (end_shstrtab named fourth size (names_named text parts symbols)))
+    ∙ (ap (λ at. offset_end at (named_shstrtab named).section) (ends_sections text sections symbols)
+    ∙ end_chain (sections_end 52 sections) behind third fourth (offset_end fourth (named_shstrtab named).section)
+    (sum_by rows_of_section sections) (symbol_bytes (length sections) (length symbols)) (names_total text symbols) size
+    (ends_relas text (symbol_numbers (length sections) symbols) (symtab_of sections) 1 (sections_end 52 sections) sections)
+    (end_symtab text sections symbols behind) (end_strtab text symbols third) (end_shstrtab named fourth size (names_named text sections symbols)))
 
 -- numbers that are far past each limit may be clipped
 same_test : (limit m n : ℕ) → (limit < m → limit < n) → (limit < n → limit < m) → nat_lt limit m ≡ nat_lt limit n
@@ -239,15 +239,15 @@ unfolding passes
 passes_told at sections symbols names t r q heavy s one two three four =
     rw (one, two, three, four, clipped_count sections t, clipped_names q, clipped_size at sections symbols names t r q) refl
 
-pub large_told : (text : List ℕ) (parts : List Part) (symbols : List Symbol) (s : Summary) → Tells text s parts → passes (parts_end 52 parts) (length parts) (length symbols) (names_total text symbols) s ≡ is_large text parts symbols
-large_told text parts symbols s tells =
-    passes_told (parts_end 52 parts) (length parts) (length symbols) (names_total text symbols) (sum_by part_tables parts) (sum_by part_rows parts) (sum_by (part_names text) parts) (list_any is_heavy parts) s tells.heavy tells.tables tells.rows tells.names
-    ∙ sym (large_past text parts symbols ∙ past_parts (suc (length (all_named text parts symbols))) (section_count (length parts) (sum_by part_tables parts)) (any_long (all_named text parts symbols)) (list_any is_heavy parts || (is_past (symbol_bytes (length parts) (length symbols)) || (is_past (1 + names_total text symbols) || is_past (name_bytes (sum_by (part_names text) parts)))))
-    (ends_all 52 (all_named text parts symbols)) (last_end (parts_end 52 parts) (sum_by part_rows parts) (symbol_bytes (length parts) (length symbols)) (names_total text symbols) (name_bytes (sum_by (part_names text) parts)))
-    (count_all text parts symbols) (long_all text parts symbols) (end_all text parts symbols))
+pub large_told : (text : List ℕ) (sections : List AsmSection) (symbols : List Symbol) (s : Summary) → Tells text s sections → passes (sections_end 52 sections) (length sections) (length symbols) (names_total text symbols) s ≡ is_large text sections symbols
+large_told text sections symbols s tells =
+    passes_told (sections_end 52 sections) (length sections) (length symbols) (names_total text symbols) (sum_by section_tables sections) (sum_by rows_of_section sections) (sum_by (names_of_section text) sections) (list_any is_heavy sections) s tells.heavy tells.tables tells.rows tells.names
+    ∙ sym (large_past text sections symbols ∙ past_sections (suc (length (all_named text sections symbols))) (section_count (length sections) (sum_by section_tables sections)) (any_long (all_named text sections symbols)) (list_any is_heavy sections || (is_past (symbol_bytes (length sections) (length symbols)) || (is_past (1 + names_total text symbols) || is_past (name_bytes (sum_by (names_of_section text) sections)))))
+    (ends_all 52 (all_named text sections symbols)) (last_end (sections_end 52 sections) (sum_by rows_of_section sections) (symbol_bytes (length sections) (length symbols)) (names_total text symbols) (name_bytes (sum_by (names_of_section text) sections)))
+    (count_all text sections symbols) (long_all text sections symbols) (end_all text sections symbols))
   where
-    past_parts : (n count : ℕ) (long other : Bool) (end at : ℕ) → n ≡ count → long ≡ other → end ≡ at → pasts n long end ≡ pasts count other at
-    past_parts n count long other end at first second third = rw (first, second, third) refl
+    past_sections : (n count : ℕ) (long other : Bool) (end at : ℕ) → n ≡ count → long ≡ other → end ≡ at → pasts n long end ≡ pasts count other at
+    past_sections n count long other end at first second third = rw (first, second, third) refl
 
 -- sections that end past the limit
 or_later : (a b c : Bool) → c ≡ true → (a || (b || c)) ≡ true
@@ -264,6 +264,6 @@ passes_past at sections symbols names s past =
     or_later (nat_lt 4096 (section_count sections s.tables)) (has_long sections symbols names s) (nat_lt 4194304 (whole_size at sections symbols names s))
     (past_from at (whole_size at sections symbols names s) past (omega arith))
 
-pub large_past_end : (text : List ℕ) (parts : List Part) (symbols : List Symbol) (s : Summary) → Tells text s parts → 4194304 < parts_end 52 parts → true ≡ is_large text parts symbols
-large_past_end text parts symbols s tells past =
-    sym (passes_past (parts_end 52 parts) (length parts) (length symbols) (names_total text symbols) s past) ∙ large_told text parts symbols s tells
+pub large_past_end : (text : List ℕ) (sections : List AsmSection) (symbols : List Symbol) (s : Summary) → Tells text s sections → 4194304 < sections_end 52 sections → true ≡ is_large text sections symbols
+large_past_end text sections symbols s tells past =
+    sym (passes_past (sections_end 52 sections) (length sections) (length symbols) (names_total text symbols) s past) ∙ large_told text sections symbols s tells

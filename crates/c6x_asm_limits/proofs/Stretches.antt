@@ -7,9 +7,9 @@ use Rattle.std.proofs.lemmas.Bool.Decides.{nat_tests}
 use Rattle.std.proofs.lemmas.Option.{IfSome_then}
 use Rattle.c6x_base.specs.Rounded.{IsRounded, rounded}
 use Rattle.c6x_base.proofs.RoundedUp.{rounded_is_least}
-use Rattle.c6x_asm_object.specs.declared.part.Part.{Part}
+use Rattle.c6x_asm_object.specs.declared.asm_section.AsmSection.{AsmSection}
 use Rattle.c6x_asm_limits.specs.declared.stretch.Stretch.{Stretch}
-use Rattle.c6x_asm_limits.specs.Places.{Ends, Reaches, both, empty_stretch, end_of, is_stored, kept, part_end, part_stretch, parts_end, place_behind, small, small_end}
+use Rattle.c6x_asm_limits.specs.Places.{Ends, Reaches, both, empty_stretch, end_of, is_stored, kept, section_end, section_stretch, sections_end, place_behind, small, small_end}
 use Rattle.c6x_asm_limits.specs.Sums.{joined_stretch}
 
 -- a multiple stays before what is rounded
@@ -115,16 +115,16 @@ both_ends a b =
     (λ at. ap (λ n. n + b.behind) (fine_end (at + a.ahead) a.behind b.ahead second first (first / second) (no_rest first second is) (omega arith) (omega arith)) ∙ omega arith))
 
 -- sections behind sections
-parts_end-append : (at : ℕ) (first second : List Part) → parts_end at (first ++ second) ≡ parts_end (parts_end at first) second
-parts_end-append at [] second = refl
-parts_end-append at (p ∷ first) second = parts_end-append (part_end at p) first second
+sections_end-append : (at : ℕ) (first second : List AsmSection) → sections_end at (first ++ second) ≡ sections_end (sections_end at first) second
+sections_end-append at [] second = refl
+sections_end-append at (p ∷ first) second = sections_end-append (section_end at p) first second
 
-pub joined_reaches : (a b : Option Stretch) (first second : List Part) → Reaches a first → Reaches b second → Reaches (joined_stretch a b) (first ++ second)
+pub joined_reaches : (a b : Option Stretch) (first second : List AsmSection) → Reaches a first → Reaches b second → Reaches (joined_stretch a b) (first ++ second)
 joined_reaches None b first second here there = tt
 joined_reaches (Some a) None first second here there = tt
 joined_reaches (Some a) (Some b) first second here there =
     IfSome_then (both a b) (both_ends a b)
-    (λ s ends at. parts_end-append at first second ∙ (ap (λ n. parts_end n second) (here at) ∙ (there (end_of a at) ∙ ends at)))
+    (λ s ends at. sections_end-append at first second ∙ (ap (λ n. sections_end n second) (here at) ∙ (there (end_of a at) ∙ ends at)))
 
 -- one section
 one_if : (stored : Bool) (align size : ℕ) → IfSome (cond stored (kept 0 align size) (Some empty_stretch)) (λ s. (at : ℕ) → place_behind at stored align size ≡ end_of s at)
@@ -132,9 +132,9 @@ unfolding end_of place_behind
 one_if true align size = kept_ends 0 align size (λ at. rounded at (max align 1) + size) (λ at. ap (λ n. rounded n (max align 1) + size) (omega arith))
 one_if false align size = λ at. omega arith
 
-pub part_reaches : (p : Part) → Reaches (part_stretch p) (p ∷ [])
-unfolding part_stretch
-part_reaches p = one_if (is_stored p.kind) p.align (length p.bytes)
+pub section_reaches : (p : AsmSection) → Reaches (section_stretch p) (p ∷ [])
+unfolding section_stretch
+section_reaches p = one_if (is_stored p.kind) p.align (length p.bytes)
 
 pub none_reaches : Reaches (Some empty_stretch) []
 unfolding end_of
@@ -146,23 +146,23 @@ unfolding place_behind
 end_above at true align size = omega (arith, (rounded_is_least at (max align 1) (omega arith)).not_below)
 end_above at false align size = omega arith
 
-parts_above : (at : ℕ) (parts : List Part) → at ≤ parts_end at parts
-parts_above at [] = omega arith
-parts_above at (p ∷ parts) = omega (arith, end_above at (is_stored p.kind) p.align (length p.bytes), parts_above (part_end at p) parts)
+sections_above : (at : ℕ) (sections : List AsmSection) → at ≤ sections_end at sections
+sections_above at [] = omega arith
+sections_above at (p ∷ sections) = omega (arith, end_above at (is_stored p.kind) p.align (length p.bytes), sections_above (section_end at p) sections)
 
 is_past_then : (m n : ℕ) → nat_lt 4194304 m ≡ true → m ≤ n → 4194304 < n
 is_past_then m n past less = grind (arith, nat_tests)
 
-small_if : (past : Bool) (end : ℕ) (parts : List Part) → nat_lt 4194304 end ≡ past → Ends end (small_end end parts) parts → Ends end (option_and_then (λ e. small_end e parts) (cond past None (Some end))) parts
-small_if true end parts is ends = is_past_then end (parts_end end parts) is (parts_above end parts)
-small_if false end parts is ends = ends
+small_if : (past : Bool) (end : ℕ) (sections : List AsmSection) → nat_lt 4194304 end ≡ past → Ends end (small_end end sections) sections → Ends end (option_and_then (λ e. small_end e sections) (cond past None (Some end))) sections
+small_if true end sections is ends = is_past_then end (sections_end end sections) is (sections_above end sections)
+small_if false end sections is ends = ends
 
-pub small_ends : (at : ℕ) (parts : List Part) → Ends at (small_end at parts) parts
+pub small_ends : (at : ℕ) (sections : List AsmSection) → Ends at (small_end at sections) sections
 small_ends at [] = refl
-small_ends at (p ∷ parts) =
-    then_ends at p parts (option_and_then (λ e. small_end e parts) (small (part_end at p)))
-    (small_if (nat_lt 4194304 (part_end at p)) (part_end at p) parts refl (small_ends (part_end at p) parts))
+small_ends at (p ∷ sections) =
+    then_ends at p sections (option_and_then (λ e. small_end e sections) (small (section_end at p)))
+    (small_if (nat_lt 4194304 (section_end at p)) (section_end at p) sections refl (small_ends (section_end at p) sections))
   where
-    then_ends : (from : ℕ) (q : Part) (rest : List Part) (o : Option ℕ) → Ends (part_end from q) o rest → Ends from o (q ∷ rest)
+    then_ends : (from : ℕ) (q : AsmSection) (rest : List AsmSection) (o : Option ℕ) → Ends (section_end from q) o rest → Ends from o (q ∷ rest)
     then_ends from q rest None ends = ends
     then_ends from q rest (Some end) ends = ends

@@ -2,33 +2,33 @@
 use Rattle.std.specs.Prelude.{◌≡◌, ℕ, ◌+◌, ◌%◌, ◌^◌, ◌==◌, ◌<◌, max, nat_lt, not, Bool, if◌then◌else◌, List, [], ◌∷◌, length, Option, Some, None, IfSome}
 use Rattle.std.specs.Option.{option_and_then}
 use Rattle.c6x_base.specs.Rounded.{rounded}
-use Rattle.c6x_asm_object.specs.declared.part.Part.{Part}
-use Rattle.c6x_asm_object.specs.declared.part_kind.PartKind.{PartKind}
-use Rattle.c6x_asm_object.specs.Parts.{is_zero}
+use Rattle.c6x_asm_object.specs.declared.asm_section.AsmSection.{AsmSection}
+use Rattle.c6x_asm_object.specs.declared.section_kind.SectionKind.{SectionKind}
+use Rattle.c6x_asm_object.specs.Sections.{is_zero}
 use Rattle.c6x_asm_limits.specs.declared.stretch.Stretch.{Stretch}
 
-abbrev pub is_stored : PartKind → Bool
+abbrev pub is_stored : SectionKind → Bool
 is_stored kind = not (is_zero kind)
 
 -- behind a section of so many bytes
 unfoldable pub place_behind : ℕ → Bool → ℕ → ℕ → ℕ
 place_behind at stored align size = if stored then rounded at (max align 1) + size else at
 
-abbrev pub part_end : ℕ → Part → ℕ
-part_end at p = place_behind at (is_stored p.kind) p.align (length p.bytes)
+abbrev pub section_end : ℕ → AsmSection → ℕ
+section_end at p = place_behind at (is_stored p.kind) p.align (length p.bytes)
 
-abbrev pub parts_end : ℕ → List Part → ℕ
-parts_end at [] = at
-parts_end at (p ∷ parts) = parts_end (part_end at p) parts
+abbrev pub sections_end : ℕ → List AsmSection → ℕ
+sections_end at [] = at
+sections_end at (p ∷ sections) = sections_end (section_end at p) sections
 
 -- no place past the most bytes of a file
 abbrev pub small : ℕ → Option ℕ
 small at = if nat_lt 4194304 at then None else Some at
 
 -- behind sections, if that and each place before it is small
-abbrev pub small_end : ℕ → List Part → Option ℕ
+abbrev pub small_end : ℕ → List AsmSection → Option ℕ
 small_end at [] = Some at
-small_end at (p ∷ parts) = option_and_then (λ end. small_end end parts) (small (part_end at p))
+small_end at (p ∷ sections) = option_and_then (λ end. small_end end sections) (small (section_end at p))
 
 -- behind a stretch
 unfoldable pub end_of : Stretch → ℕ → ℕ
@@ -44,8 +44,8 @@ abbrev pub empty_stretch : Stretch
 empty_stretch = record { ahead = 0; align = 1; behind = 0 }
 
 -- one section
-unfoldable pub part_stretch : Part → Option Stretch
-part_stretch p = if is_stored p.kind then kept 0 p.align (length p.bytes) else Some empty_stretch
+unfoldable pub section_stretch : AsmSection → Option Stretch
+section_stretch p = if is_stored p.kind then kept 0 p.align (length p.bytes) else Some empty_stretch
 
 -- one stretch behind another, where one of their alignments is a multiple of the other
 unfoldable pub both : Stretch → Stretch → Option Stretch
@@ -55,10 +55,10 @@ both a b =
     else None
 
 -- where sections end is where the stretch, if it is known, ends
-abbrev pub Reaches : Option Stretch → List Part → Type 0
-Reaches stretch parts = IfSome stretch (λ s. (at : ℕ) → parts_end at parts ≡ end_of s at)
+abbrev pub Reaches : Option Stretch → List AsmSection → Type 0
+Reaches stretch sections = IfSome stretch (λ s. (at : ℕ) → sections_end at sections ≡ end_of s at)
 
 -- where sections that begin at `at` end, or that it is past the most bytes of a file
-abbrev pub Ends : ℕ → Option ℕ → List Part → Type 0
-Ends at None parts = 4194304 < parts_end at parts
-Ends at (Some end) parts = end ≡ parts_end at parts
+abbrev pub Ends : ℕ → Option ℕ → List AsmSection → Type 0
+Ends at None sections = 4194304 < sections_end at sections
+Ends at (Some end) sections = end ≡ sections_end at sections

@@ -8,7 +8,7 @@ use crate::outline::Outline;
 use crate::placing::{MOST_BYTES, end};
 use crate::summary::Summary;
 use crate::summing::is_past;
-use c6x_asm_object::{Part, Symbol};
+use c6x_asm_object::{AsmSection, Symbol};
 
 // The most sections.
 const MOST_SECTIONS: u128 = 4_096;
@@ -55,18 +55,18 @@ fn passes(at: u64, sections: usize, symbols: usize, names: usize, sum: Summary) 
 /// symbols' names, each with a zero byte. The time is that of a walk over the blocks of the outline.
 pub fn is_large(
     text: &[u8],
-    parts: &[Part],
+    sections: &[AsmSection],
     symbols: &[Symbol],
     names: usize,
     outline: &Outline,
 ) -> bool
     requires names { names ≡ names_total text.now symbols.now }
-    requires blocks { AreBlocks text.now parts.now outline.now }
-    ensures { result ≡ is_large text.now parts.now symbols.now }
+    requires blocks { AreBlocks text.now sections.now outline.now }
+    ensures { result ≡ is_large text.now sections.now symbols.now }
 {
     let sum = outline.sum();
-    match end(parts, sum.stretch) {
+    match end(sections, sum.stretch) {
         None => true,
-        Some(at) => passes(at, parts.len(), symbols.len(), names, sum),
+        Some(at) => passes(at, sections.len(), symbols.len(), names, sum),
     }
 }

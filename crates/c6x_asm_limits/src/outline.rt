@@ -3,18 +3,18 @@ ghost use Rattle.c6x_asm_limits.specs.Sums.{AreBlocks, behind_line, block_summar
 
 use crate::summary::Summary;
 use crate::summing::{joined_all, summed};
-use c6x_asm_object::Part;
+use c6x_asm_object::AsmSection;
 use std::alloc::{AllocError, Global};
 use std::marker::Model;
 
 // The sections of a block.
 const BLOCK: usize = 64;
 
-fn block_summary(text: &[u8], parts: &[Part], block: usize) -> Summary
-    requires { 64 * block ≤ length parts.now }
-    ensures { result ≡ block_summary text.now parts.now block }
+fn block_summary(text: &[u8], sections: &[AsmSection], block: usize) -> Summary
+    requires { 64 * block ≤ length sections.now }
+    ensures { result ≡ block_summary text.now sections.now block }
 {
-    let rest = &parts[BLOCK * block..];
+    let rest = &sections[BLOCK * block..];
     summed(text, &rest[..rest.len().min(BLOCK)])
 }
 
@@ -36,25 +36,25 @@ impl Model for Outline {
 impl Outline {
     /// The outline of sections.
     #[tactic(auto, using(crate::proofs::Blocks::blocks_none))]
-    pub fn of(alloc: Global, text: &[u8], parts: &[Part]) -> Result<Outline, AllocError>
-        ensures { IfOk result (λ o. AreBlocks text.now parts.now o) }
+    pub fn of(alloc: Global, text: &[u8], sections: &[AsmSection]) -> Result<Outline, AllocError>
+        ensures { IfOk result (λ o. AreBlocks text.now sections.now o) }
     {
         let mut outline = Outline {
             blocks: Vec::new(alloc),
         };
-        for place in 0..parts.len() {
-            outline.refresh(text, &parts[..place + 1], place)?;
+        for place in 0..sections.len() {
+            outline.refresh(text, &sections[..place + 1], place)?;
         }
         Ok(outline)
     }
 
     // The block of a section anew.
-    fn refresh(&mut self, text: &[u8], parts: &[Part], place: usize) -> Result<(), AllocError>
-        requires { place < length parts.now }
-        ensures { OnOk result (self.new ≡ refreshed text.now parts.now self.old place) }
+    fn refresh(&mut self, text: &[u8], sections: &[AsmSection], place: usize) -> Result<(), AllocError>
+        requires { place < length sections.now }
+        ensures { OnOk result (self.new ≡ refreshed text.now sections.now self.old place) }
     {
         let block = place / BLOCK;
-        let summary = block_summary(text, parts, block);
+        let summary = block_summary(text, sections, block);
         if block < self.blocks.len() {
             self.blocks[block] = summary;
             Ok(())
@@ -69,19 +69,19 @@ impl Outline {
     pub fn follow(
         &mut self,
         text: &[u8],
-        parts: &[Part],
+        sections: &[AsmSection],
         count: usize,
         current: Option<usize>,
     ) -> Result<(), AllocError>
-        requires { IfSome current (λ i. i < length parts.now) }
-        ensures { OnOk result (self.new ≡ behind_line text.now parts.now self.old count current) }
+        requires { IfSome current (λ i. i < length sections.now) }
+        ensures { OnOk result (self.new ≡ behind_line text.now sections.now self.old count current) }
     {
-        if parts.len() > count {
-            return self.refresh(text, parts, parts.len() - 1);
+        if sections.len() > count {
+            return self.refresh(text, sections, sections.len() - 1);
         }
         match current {
             None => Ok(()),
-            Some(place) => self.refresh(text, parts, place),
+            Some(place) => self.refresh(text, sections, place),
         }
     }
 

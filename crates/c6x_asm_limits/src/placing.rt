@@ -1,9 +1,9 @@
 ghost use Rattle.std.specs.Prelude.{◌≡◌, ℕ, ◌+◌, ◌<◌, ◌^◌, ◌≤◌, max, length, Some, IfSome};
 ghost use Rattle.c6x_base.specs.Rounded.{rounded};
-ghost use Rattle.c6x_asm_limits.specs.Places.{Ends, Reaches, both, end_of, is_stored, kept, part_end, part_stretch, small, small_end};
+ghost use Rattle.c6x_asm_limits.specs.Places.{Ends, Reaches, both, end_of, is_stored, kept, section_end, section_stretch, small, small_end};
 
 use crate::stretch::Stretch;
-use c6x_asm_object::{Part, PartKind};
+use c6x_asm_object::{AsmSection, SectionKind};
 
 /// The most bytes of a file.
 pub const MOST_BYTES: u64 = 4_194_304;
@@ -19,11 +19,11 @@ fn rounded(at: u64, align: u32) -> u64
     (at + (align - 1)) / align * align
 }
 
-fn is_stored(kind: PartKind) -> bool
+fn is_stored(kind: SectionKind) -> bool
     ensures { result ≡ is_stored kind }
 {
     match kind {
-        PartKind::Zero => false,
+        SectionKind::Zero => false,
         _ => true,
     }
 }
@@ -39,12 +39,12 @@ fn kept(ahead: u64, align: u32, behind: u64) -> Option<Stretch>
 }
 
 /// What a section does to a place.
-#[tactic(auto, unfolding(crate::specs::Places::part_stretch))]
-pub fn part_stretch(part: &Part) -> Option<Stretch>
-    ensures { result ≡ part_stretch part.now }
+#[tactic(auto, unfolding(crate::specs::Places::section_stretch))]
+pub fn section_stretch(section: &AsmSection) -> Option<Stretch>
+    ensures { result ≡ section_stretch section.now }
 {
-    if is_stored(part.kind) {
-        kept(0, part.align, part.bytes.as_slice().len() as u64)
+    if is_stored(section.kind) {
+        kept(0, section.align, section.bytes.as_slice().len() as u64)
     } else {
         Some(Stretch {
             ahead: 0,
@@ -96,38 +96,38 @@ fn small(at: u64) -> Option<u64>
 }
 
 #[tactic(auto, unfolding(crate::specs::Places::place_behind))]
-fn part_end(at: u64, part: &Part) -> u64
+fn section_end(at: u64, section: &AsmSection) -> u64
     requires { at ≤ 4194304 }
-    ensures { result ≡ part_end at part.now }
+    ensures { result ≡ section_end at section.now }
 {
-    if is_stored(part.kind) {
-        rounded(at, part.align.max(1)) + part.bytes.as_slice().len() as u64
+    if is_stored(section.kind) {
+        rounded(at, section.align.max(1)) + section.bytes.as_slice().len() as u64
     } else {
         at
     }
 }
 
 // A walk over the sections.
-fn small_end(at: u64, parts: &[Part]) -> Option<u64>
+fn small_end(at: u64, sections: &[AsmSection]) -> Option<u64>
     requires { at ≤ 4194304 }
-    ensures is { result ≡ small_end at parts.now }
+    ensures is { result ≡ small_end at sections.now }
     ensures few { IfSome result (λ end. end ≤ 4194304) }
 {
     let mut end = at;
-    for part in parts {
-        end = small(part_end(end, part))?;
+    for section in sections {
+        end = small(section_end(end, section))?;
     }
     Some(end)
 }
 
 /// Where sections that begin behind the file header end. None where that is past the most bytes of a file.
 #[tactic(auto, using(crate::proofs::Stretches::small_ends))]
-pub fn end(parts: &[Part], stretch: Option<Stretch>) -> Option<u64>
-    requires { Reaches stretch parts.now }
-    ensures { Ends 52 result parts.now }
+pub fn end(sections: &[AsmSection], stretch: Option<Stretch>) -> Option<u64>
+    requires { Reaches stretch sections.now }
+    ensures { Ends 52 result sections.now }
 {
     match stretch {
         Some(s) => Some(end_of(s, 52)),
-        None => small_end(52, parts),
+        None => small_end(52, sections),
     }
 }

@@ -1,12 +1,12 @@
 ghost use Rattle.std.specs.Prelude.{◌≡◌, ◌<◌, ◌^◌, length, Some};
-ghost use Rattle.c6x_asm_object.specs.Named.{part_name};
-ghost use Rattle.c6x_asm_limits.specs.Sums.{clipped, empty_summary, is_heavy, is_past, joined, joined_all, joined_stretch, part_names, part_rows, part_summary, part_tables, summed};
+ghost use Rattle.c6x_asm_object.specs.Named.{section_name};
+ghost use Rattle.c6x_asm_limits.specs.Sums.{clipped, empty_summary, is_heavy, is_past, joined, joined_all, joined_stretch, names_of_section, rows_of_section, section_summary, section_tables, summed};
 
-use crate::placing::{both, part_stretch};
+use crate::placing::{both, section_stretch};
 use crate::stretch::Stretch;
 use crate::summary::Summary;
 use c6x_asm_lines::bytes_at;
-use c6x_asm_object::Part;
+use c6x_asm_object::AsmSection;
 
 // The most bytes of a section.
 const MOST_SECTION: u128 = 1_048_576;
@@ -19,47 +19,47 @@ pub fn is_past(size: u128) -> bool
     size > MOST_SECTION
 }
 
-fn is_heavy(part: &Part) -> bool
-    ensures { result ≡ is_heavy part.now }
+fn is_heavy(section: &AsmSection) -> bool
+    ensures { result ≡ is_heavy section.now }
 {
-    is_past(u128::from(part.size))
-        || is_past(part.bytes.as_slice().len() as u128)
-        || is_past(12 * part.entries.as_slice().len() as u128)
+    is_past(u128::from(section.size))
+        || is_past(section.bytes.as_slice().len() as u128)
+        || is_past(12 * section.entries.as_slice().len() as u128)
 }
 
-fn part_rows(part: &Part) -> u64
-    ensures { result ≡ clipped (part_rows part.now) }
+fn rows_of_section(section: &AsmSection) -> u64
+    ensures { result ≡ clipped (rows_of_section section.now) }
 {
-    (part.entries.as_slice().len() as u64).saturating_mul(12)
+    (section.entries.as_slice().len() as u64).saturating_mul(12)
 }
 
-fn part_tables(part: &Part) -> u64
-    ensures { result ≡ part_tables part.now }
+fn section_tables(section: &AsmSection) -> u64
+    ensures { result ≡ section_tables section.now }
 {
-    u64::from(part.entries.as_slice().len() >= 1)
+    u64::from(section.entries.as_slice().len() >= 1)
 }
 
-fn part_names(text: &[u8], part: &Part) -> u64
-    ensures { result ≡ clipped (part_names text.now part.now) }
+fn names_of_section(text: &[u8], section: &AsmSection) -> u64
+    ensures { result ≡ clipped (names_of_section text.now section.now) }
 {
-    let len = bytes_at(text, part.at, part.len).len() as u64;
-    if part.entries.as_slice().len() >= 1 {
+    let len = bytes_at(text, section.at, section.len).len() as u64;
+    if section.entries.as_slice().len() >= 1 {
         (len + 1).saturating_add(len + 6)
     } else {
         len + 1
     }
 }
 
-#[tactic(auto, unfolding(crate::specs::Sums::part_summary))]
-fn part_summary(text: &[u8], part: &Part) -> Summary
-    ensures { result ≡ part_summary text.now part.now }
+#[tactic(auto, unfolding(crate::specs::Sums::section_summary))]
+fn section_summary(text: &[u8], section: &AsmSection) -> Summary
+    ensures { result ≡ section_summary text.now section.now }
 {
     Summary {
-        stretch: part_stretch(part),
-        heavy: is_heavy(part),
-        tables: part_tables(part),
-        rows: part_rows(part),
-        names: part_names(text, part),
+        stretch: section_stretch(section),
+        heavy: is_heavy(section),
+        tables: section_tables(section),
+        rows: rows_of_section(section),
+        names: names_of_section(text, section),
     }
 }
 
@@ -101,12 +101,12 @@ fn joined(a: Summary, b: Summary) -> Summary
 
 /// The summary of sections.
 #[tactic(auto, using(crate::proofs::Folds::summed_more))]
-pub fn summed(text: &[u8], parts: &[Part]) -> Summary
-    ensures { result ≡ summed text.now empty_summary parts.now }
+pub fn summed(text: &[u8], sections: &[AsmSection]) -> Summary
+    ensures { result ≡ summed text.now empty_summary sections.now }
 {
     let mut sum = empty_summary();
-    for part in parts {
-        sum = joined(sum, part_summary(text, part));
+    for section in sections {
+        sum = joined(sum, section_summary(text, section));
     }
     sum
 }

@@ -1,16 +1,16 @@
 use crate::{Outline, is_large};
-use c6x_asm_object::{Entry, Items, Part, PartKind, Symbol};
+use c6x_asm_object::{RelocEntry, Items, AsmSection, SectionKind, Symbol};
 use c6x_reloc::RelocKind;
 use std::alloc::{AllocError, Global};
 use std::test::Fail;
 
 // A section named by the first five bytes of the text.
-fn part(alloc: Global, kind: PartKind, size: u32) -> Result<Part, AllocError> {
+fn section(alloc: Global, kind: SectionKind, size: u32) -> Result<AsmSection, AllocError> {
     let mut bytes = Items::new(alloc);
-    if kind != PartKind::Zero {
+    if kind != SectionKind::Zero {
         bytes.extend_zeros(size)?;
     }
-    Ok(Part {
+    Ok(AsmSection {
         at: 0,
         len: 5,
         kind,
@@ -18,70 +18,70 @@ fn part(alloc: Global, kind: PartKind, size: u32) -> Result<Part, AllocError> {
         size,
         bytes,
         entries: Items::new(alloc),
-        slots: Items::new(alloc),
+        instructions: Items::new(alloc),
         last: None,
     })
 }
 
 // Whether the object of these sections and no symbols of the text passes a limit.
-fn is_over(alloc: Global, parts: &[Part]) -> Result<bool, AllocError> {
-    let outline = Outline::of(alloc, b".text", parts)?;
-    Ok(is_large(b".text", parts, &[], 0, &outline))
+fn is_over(alloc: Global, sections: &[AsmSection]) -> Result<bool, AllocError> {
+    let outline = Outline::of(alloc, b".text", sections)?;
+    Ok(is_large(b".text", sections, &[], 0, &outline))
 }
 
 #[test]
 fn a_small_text(rt: HostRuntime) -> Result<(), Fail> {
     let alloc = rt.alloc();
-    let parts = vec![in alloc;
-        part(alloc, PartKind::Data, 10)?,
-        part(alloc, PartKind::Zero, 1_048_576)?,
+    let sections = vec![in alloc;
+        section(alloc, SectionKind::Data, 10)?,
+        section(alloc, SectionKind::Zero, 1_048_576)?,
     ]?;
-    assert!(rt; !is_over(alloc, &parts)?);
+    assert!(rt; !is_over(alloc, &sections)?);
     Ok(())
 }
 
 #[test]
 fn a_long_section(rt: HostRuntime) -> Result<(), Fail> {
     let alloc = rt.alloc();
-    let parts = vec![in alloc; part(alloc, PartKind::Zero, 1_048_577)?]?;
-    assert!(rt; is_over(alloc, &parts)?);
+    let sections = vec![in alloc; section(alloc, SectionKind::Zero, 1_048_577)?]?;
+    assert!(rt; is_over(alloc, &sections)?);
     Ok(())
 }
 
 #[test]
 fn many_sections(rt: HostRuntime) -> Result<(), Fail> {
     let alloc = rt.alloc();
-    let mut parts = Vec::new(alloc);
+    let mut sections = Vec::new(alloc);
     for _ in 0..4_092 {
-        parts.push(part(alloc, PartKind::Zero, 0)?)?;
+        sections.push(section(alloc, SectionKind::Zero, 0)?)?;
     }
-    assert!(rt; !is_over(alloc, &parts)?);
-    parts.push(part(alloc, PartKind::Zero, 0)?)?;
-    assert!(rt; is_over(alloc, &parts)?);
+    assert!(rt; !is_over(alloc, &sections)?);
+    sections.push(section(alloc, SectionKind::Zero, 0)?)?;
+    assert!(rt; is_over(alloc, &sections)?);
     Ok(())
 }
 
 // 87,000 relocations of each of four sections take 4,176,000 bytes, and behind the 56 bytes of the file header
 // come the fifth section, `.symtab` of 96 bytes, `.strtab` of 1, `.shstrtab` of 101, and 13 headers of 40.
 fn is_long_file(alloc: Global, size: u32) -> Result<bool, AllocError> {
-    let mut parts = Vec::new(alloc);
+    let mut sections = Vec::new(alloc);
     for _ in 0..4 {
         let mut entries = Items::new(alloc);
         for _ in 0..87_000 {
-            entries.push(Entry {
+            entries.push(RelocEntry {
                 offset: 0,
                 kind: RelocKind::ABS32,
                 symbol: None,
                 addend: 0,
             })?;
         }
-        parts.push(Part {
+        sections.push(AsmSection {
             entries,
-            ..part(alloc, PartKind::Zero, 0)?
+            ..section(alloc, SectionKind::Zero, 0)?
         })?;
     }
-    parts.push(part(alloc, PartKind::Data, size)?)?;
-    is_over(alloc, &parts)
+    sections.push(section(alloc, SectionKind::Data, size)?)?;
+    is_over(alloc, &sections)
 }
 
 #[test]
@@ -95,18 +95,18 @@ fn a_long_file(rt: HostRuntime) -> Result<(), Fail> {
 #[tactic(auto, unfolding(c6x_asm_lines::specs::Bytes::bytes_at))]
 fn a_name(rt: HostRuntime) -> Result<(), Fail> {
     let alloc = rt.alloc();
-    let parts = vec![in alloc; part(alloc, PartKind::Data, 10)?]?;
+    let sections = vec![in alloc; section(alloc, SectionKind::Data, 10)?]?;
     let symbol = Symbol {
         at: 1,
         len: 2,
-        spot: None,
+        definition: None,
         global: false,
         weak: false,
         hidden: false,
     };
     let symbols = vec![in alloc; symbol]?;
-    let outline = Outline::of(alloc, b".text", &parts)?;
-    assert!(rt; !is_large(b".text", &parts, &symbols, 3, &outline));
+    let outline = Outline::of(alloc, b".text", &sections)?;
+    assert!(rt; !is_large(b".text", &sections, &symbols, 3, &outline));
     Ok(())
 }
 
@@ -114,20 +114,20 @@ fn a_name(rt: HostRuntime) -> Result<(), Fail> {
 #[test]
 fn wide_sections(rt: HostRuntime) -> Result<(), Fail> {
     let alloc = rt.alloc();
-    let mut parts = vec![in alloc; part(alloc, PartKind::Data, 1)?]?;
+    let mut sections = vec![in alloc; section(alloc, SectionKind::Data, 1)?]?;
     for _ in 0..4_000 {
-        parts.push(Part {
+        sections.push(AsmSection {
             align: 1_024,
-            ..part(alloc, PartKind::Data, 0)?
+            ..section(alloc, SectionKind::Data, 0)?
         })?;
     }
-    assert!(rt; !is_over(alloc, &parts)?);
+    assert!(rt; !is_over(alloc, &sections)?);
     for _ in 0..3 {
-        parts.push(part(alloc, PartKind::Data, 1_000_000)?)?;
+        sections.push(section(alloc, SectionKind::Data, 1_000_000)?)?;
     }
-    parts.push(part(alloc, PartKind::Data, 900_000)?)?;
-    assert!(rt; !is_over(alloc, &parts)?);
-    parts.push(part(alloc, PartKind::Data, 100_000)?)?;
-    assert!(rt; is_over(alloc, &parts)?);
+    sections.push(section(alloc, SectionKind::Data, 900_000)?)?;
+    assert!(rt; !is_over(alloc, &sections)?);
+    sections.push(section(alloc, SectionKind::Data, 100_000)?)?;
+    assert!(rt; is_over(alloc, &sections)?);
     Ok(())
 }

@@ -7,7 +7,7 @@ use Rattle.c6x_instr.specs.declared.cond.Cond.TheVariants.{Always, If}
 use Rattle.c6x_instr.specs.declared.cond_reg.CondReg.{CondReg}
 use Rattle.c6x_instr.specs.declared.cond_reg.CondReg.TheVariants.{B0, B1, B2, A1, A2, A0}
 use Rattle.c6x_asm_lines.specs.declared.address.Address.{Address}
-use Rattle.c6x_asm_lines.specs.declared.head.Head.{Head}
+use Rattle.c6x_asm_lines.specs.declared.statement_head.StatementHead.{StatementHead}
 use Rattle.c6x_asm_lines.specs.declared.line.Line.{Line}
 use Rattle.c6x_asm_lines.specs.declared.line.Statement.{Statement}
 use Rattle.c6x_asm_lines.specs.declared.mode.Mode.{Mode}
@@ -16,17 +16,17 @@ use Rattle.c6x_asm_lines.specs.declared.offset.Offset.{Offset}
 use Rattle.c6x_asm_lines.specs.declared.offset.Offset.TheVariants.{Missing, Bracket, Parenthesis}
 use Rattle.c6x_asm_lines.specs.declared.operand.Operand.{Operand}
 use Rattle.c6x_asm_lines.specs.declared.operand.Operand.TheVariants.{Text as TextOperand, Address as AddressOperand, Value as ValueOperand}
-use Rattle.c6x_asm_lines.specs.declared.step.Step.{Step}
-use Rattle.c6x_asm_lines.specs.declared.step.Step.TheVariants.{Still, Plus as StepPlus, Minus as StepMinus, PlusPlus, MinusMinus}
+use Rattle.c6x_asm_lines.specs.declared.base_modifier.BaseModifier.{BaseModifier}
+use Rattle.c6x_asm_lines.specs.declared.base_modifier.BaseModifier.TheVariants.{Unmodified, Plus as PlusModifier, Minus as MinusModifier, PlusPlus, MinusMinus}
 use Rattle.c6x_asm_lines.specs.declared.value.Value.{Value}
-use Rattle.c6x_asm_lines.specs.declared.value.Value.TheVariants.{Plain as PlainValue, Kind as KindValue}
+use Rattle.c6x_asm_lines.specs.declared.value.Value.TheVariants.{Primary as PrimaryValue, Kind as KindValue}
 use Rattle.c6x_asm_lines.specs.declared.register.Register.{Register}
-use Rattle.c6x_asm_lines.specs.declared.sign.Sign.TheVariants.{Colon, Comma, LeftBracket, RightBracket, LeftParenthesis, RightParenthesis, Star, Plus, Minus, Bang, Percent, Bars}
+use Rattle.c6x_asm_lines.specs.declared.punctuator.Punctuator.TheVariants.{Colon, Comma, LeftBracket, RightBracket, LeftParenthesis, RightParenthesis, Star, Plus, Minus, Bang, Percent, ParallelBars}
 use Rattle.c6x_asm_lines.specs.declared.lexeme.Lexeme.{Lexeme}
-use Rattle.c6x_asm_lines.specs.declared.lexeme.Lexeme.TheVariants.{Word as Worded, Number as Numbered, Text, Sign as Signed}
+use Rattle.c6x_asm_lines.specs.declared.lexeme.Lexeme.TheVariants.{Word as Worded, Number as Numbered, Text, Punctuator as Punctuated}
 use Rattle.c6x_asm_lines.specs.declared.number.Number.{Number}
-use Rattle.c6x_asm_lines.specs.declared.plain.Plain.{Plain}
-use Rattle.c6x_asm_lines.specs.declared.plain.Plain.TheVariants.{Register as PlainRegister, Number as PlainNumber, Symbol as PlainSymbol}
+use Rattle.c6x_asm_lines.specs.declared.primary.Primary.{Primary}
+use Rattle.c6x_asm_lines.specs.declared.primary.Primary.TheVariants.{Register as PrimaryRegister, Number as PrimaryNumber, Symbol as PrimarySymbol}
 use Rattle.c6x_asm_lines.specs.declared.word.Word.{Word}
 use Rattle.c6x_asm_lines.specs.declared.word.WordClass.{WordClass}
 use Rattle.c6x_asm_lines.specs.declared.word.WordClass.TheVariants.{Register as RegisterClass, Dotted, Nop}
@@ -42,7 +42,7 @@ None >>= next = None
 
 abbrev pub read_number : List Lexeme → Read Number
 read_number (Numbered size ∷ rest) = Some (record { negative = false; size = size }, rest)
-read_number (Signed Minus ∷ Numbered size ∷ rest) = Some (record { negative = true; size = size }, rest)
+read_number (Punctuated Minus ∷ Numbered size ∷ rest) = Some (record { negative = true; size = size }, rest)
 read_number _ = None
 
 -- a number behind a sign; `-` turns its sign
@@ -50,43 +50,43 @@ abbrev pub turned : Bool → Number → Number
 turned minus n = record { negative = if minus then not n.negative else n.negative; size = n.size }
 
 abbrev pub read_addend : List Lexeme → Read (Option Number)
-read_addend (Signed Plus ∷ rest) = read_number rest >>= λ n. Some (Some (turned false n.0), n.1)
-read_addend (Signed Minus ∷ rest) = read_number rest >>= λ n. Some (Some (turned true n.0), n.1)
+read_addend (Punctuated Plus ∷ rest) = read_number rest >>= λ n. Some (Some (turned false n.0), n.1)
+read_addend (Punctuated Minus ∷ rest) = read_number rest >>= λ n. Some (Some (turned true n.0), n.1)
 read_addend rest = Some (None, rest)
 
-abbrev pub read_symbol : Word → List Lexeme → Read Plain
-read_symbol name rest = if nat_le name.len 64 then (read_addend rest >>= λ a. Some (PlainSymbol name a.0, a.1)) else None
+abbrev pub read_symbol : Word → List Lexeme → Read Primary
+read_symbol name rest = if nat_le name.len 64 then (read_addend rest >>= λ a. Some (PrimarySymbol name a.0, a.1)) else None
 
-abbrev pub read_worded : WordClass → Word → List Lexeme → Read Plain
-read_worded (RegisterClass register) word rest = Some (PlainRegister register, rest)
+abbrev pub read_worded : WordClass → Word → List Lexeme → Read Primary
+read_worded (RegisterClass register) word rest = Some (PrimaryRegister register, rest)
 read_worded _ word rest = read_symbol word rest
 
 -- a register, a number, or a symbol with its addend
-abbrev pub read_plain : List Lexeme → Read Plain
-read_plain (Worded word ∷ rest) = read_worded word.class word rest
-read_plain rest = read_number rest >>= λ n. Some (PlainNumber n.0, n.1)
+abbrev pub read_primary : List Lexeme → Read Primary
+read_primary (Worded word ∷ rest) = read_worded word.class word rest
+read_primary rest = read_number rest >>= λ n. Some (PrimaryNumber n.0, n.1)
 
 -- what stands behind a closing sign
 abbrev pub close_bracket : List Lexeme → Option (List Lexeme)
-close_bracket (Signed RightBracket ∷ rest) = Some rest
+close_bracket (Punctuated RightBracket ∷ rest) = Some rest
 close_bracket _ = None
 
 abbrev pub close_parenthesis : List Lexeme → Option (List Lexeme)
-close_parenthesis (Signed RightParenthesis ∷ rest) = Some rest
+close_parenthesis (Punctuated RightParenthesis ∷ rest) = Some rest
 close_parenthesis _ = None
 
 -- an operand as above, or one with a kind: `%kind(operand)` or `%kind`
 unfoldable pub read_value : List Lexeme → Read Value
-read_value (Signed Percent ∷ Worded kind ∷ Signed LeftParenthesis ∷ rest) = read_plain rest >>= λ p. close_parenthesis p.1 >>= λ after. Some (KindValue kind (Some p.0), after)
-read_value (Signed Percent ∷ Worded kind ∷ rest) = Some (KindValue kind None, rest)
-read_value rest = read_plain rest >>= λ p. Some (PlainValue p.0, p.1)
+read_value (Punctuated Percent ∷ Worded kind ∷ Punctuated LeftParenthesis ∷ rest) = read_primary rest >>= λ p. close_parenthesis p.1 >>= λ after. Some (KindValue kind (Some p.0), after)
+read_value (Punctuated Percent ∷ Worded kind ∷ rest) = Some (KindValue kind None, rest)
+read_value rest = read_primary rest >>= λ p. Some (PrimaryValue p.0, p.1)
 
-abbrev pub read_step : List Lexeme → Step × List Lexeme
-read_step (Signed Plus ∷ Signed Plus ∷ rest) = (PlusPlus, rest)
-read_step (Signed Plus ∷ rest) = (StepPlus, rest)
-read_step (Signed Minus ∷ Signed Minus ∷ rest) = (MinusMinus, rest)
-read_step (Signed Minus ∷ rest) = (StepMinus, rest)
-read_step rest = (Still, rest)
+abbrev pub read_modifier : List Lexeme → BaseModifier × List Lexeme
+read_modifier (Punctuated Plus ∷ Punctuated Plus ∷ rest) = (PlusPlus, rest)
+read_modifier (Punctuated Plus ∷ rest) = (PlusModifier, rest)
+read_modifier (Punctuated Minus ∷ Punctuated Minus ∷ rest) = (MinusMinus, rest)
+read_modifier (Punctuated Minus ∷ rest) = (MinusModifier, rest)
+read_modifier rest = (Unmodified, rest)
 
 abbrev pub base_of : WordClass → Word → Option (Option Register)
 base_of (RegisterClass register) word = Some (Some register)
@@ -98,38 +98,38 @@ read_base (Worded word ∷ rest) = base_of word.class word >>= λ base. Some (ba
 read_base _ = None
 
 unfoldable pub read_offset : List Lexeme → Read Offset
-read_offset (Signed LeftBracket ∷ rest) = read_value rest >>= λ v. close_bracket v.1 >>= λ after. Some (Bracket v.0, after)
-read_offset (Signed LeftParenthesis ∷ rest) = read_value rest >>= λ v. close_parenthesis v.1 >>= λ after. Some (Parenthesis v.0, after)
+read_offset (Punctuated LeftBracket ∷ rest) = read_value rest >>= λ v. close_bracket v.1 >>= λ after. Some (Bracket v.0, after)
+read_offset (Punctuated LeftParenthesis ∷ rest) = read_value rest >>= λ v. close_parenthesis v.1 >>= λ after. Some (Parenthesis v.0, after)
 read_offset rest = Some (Missing, rest)
 
 -- the mode of an address, by the signs before and behind its base (SPRU732, "Addressing Modes")
-abbrev pub mode_of : Step → Step → Offset → Option Mode
-mode_of Still Still Missing = Some Positive
-mode_of StepPlus Still (Bracket v) = Some Positive
-mode_of StepPlus Still (Parenthesis v) = Some Positive
-mode_of StepMinus Still (Bracket v) = Some Negative
-mode_of MinusMinus Still Missing = Some PreDecrement
-mode_of MinusMinus Still (Bracket v) = Some PreDecrement
-mode_of PlusPlus Still Missing = Some PreIncrement
-mode_of PlusPlus Still (Bracket v) = Some PreIncrement
-mode_of Still MinusMinus Missing = Some PostDecrement
-mode_of Still MinusMinus (Bracket v) = Some PostDecrement
-mode_of Still PlusPlus Missing = Some PostIncrement
-mode_of Still PlusPlus (Bracket v) = Some PostIncrement
+abbrev pub mode_of : BaseModifier → BaseModifier → Offset → Option Mode
+mode_of Unmodified Unmodified Missing = Some Positive
+mode_of PlusModifier Unmodified (Bracket v) = Some Positive
+mode_of PlusModifier Unmodified (Parenthesis v) = Some Positive
+mode_of MinusModifier Unmodified (Bracket v) = Some Negative
+mode_of MinusMinus Unmodified Missing = Some PreDecrement
+mode_of MinusMinus Unmodified (Bracket v) = Some PreDecrement
+mode_of PlusPlus Unmodified Missing = Some PreIncrement
+mode_of PlusPlus Unmodified (Bracket v) = Some PreIncrement
+mode_of Unmodified MinusMinus Missing = Some PostDecrement
+mode_of Unmodified MinusMinus (Bracket v) = Some PostDecrement
+mode_of Unmodified PlusPlus Missing = Some PostIncrement
+mode_of Unmodified PlusPlus (Bracket v) = Some PostIncrement
 mode_of _ _ _ = None
 
 unfoldable pub read_address : List Lexeme → Read Address
 read_address lexemes =
-    let before = read_step lexemes in
+    let before = read_modifier lexemes in
     read_base before.1 >>= λ base.
-    let behind = read_step base.1 in
+    let behind = read_modifier base.1 in
     read_offset behind.1 >>= λ offset.
     mode_of before.0 behind.0 offset.0 >>= λ mode.
     Some (record { base = base.0; mode = mode; offset = offset.0 }, offset.1)
 
 unfoldable pub read_operand : List Lexeme → Read Operand
 read_operand (Text at len ∷ rest) = Some (TextOperand at len, rest)
-read_operand (Signed Star ∷ rest) = read_address rest >>= λ a. Some (AddressOperand a.0, a.1)
+read_operand (Punctuated Star ∷ rest) = read_address rest >>= λ a. Some (AddressOperand a.0, a.1)
 read_operand rest = read_value rest >>= λ v. Some (ValueOperand v.0, v.1)
 
 abbrev pub with_no_rest : {T : Type 0} → T → List Lexeme → Option T
@@ -140,7 +140,7 @@ unfoldable pub whole_operand : List Lexeme → Option Operand
 whole_operand lexemes = read_operand lexemes >>= λ r. with_no_rest r.0 r.1
 
 abbrev pub is_comma : Lexeme → Bool
-is_comma (Signed Comma) = true
+is_comma (Punctuated Comma) = true
 is_comma _ = false
 
 abbrev pub all_operands : List (List Lexeme) → Option (List Operand)
@@ -158,12 +158,12 @@ is_name (RegisterClass register) word = false
 is_name _ word = nat_le word.len 64
 
 unfoldable pub read_label : List Lexeme → Read (Option Word)
-read_label (Worded word ∷ Signed Colon ∷ rest) = if is_name word.class word then Some (Some word, rest) else None
+read_label (Worded word ∷ Punctuated Colon ∷ rest) = if is_name word.class word then Some (Some word, rest) else None
 read_label rest = Some (None, rest)
 
-abbrev pub read_bars : List Lexeme → Bool × List Lexeme
-read_bars (Signed Bars ∷ rest) = (true, rest)
-read_bars rest = (false, rest)
+abbrev pub read_parallel_bars : List Lexeme → Bool × List Lexeme
+read_parallel_bars (Punctuated ParallelBars ∷ rest) = (true, rest)
+read_parallel_bars rest = (false, rest)
 
 -- the registers that a condition may test (SPRU732, "Conditional Operations")
 abbrev pub cond_reg_of : Register → Option CondReg
@@ -178,9 +178,9 @@ condition_on (RegisterClass register) zero = cond_reg_of register >>= λ r. Some
 condition_on _ zero = None
 
 unfoldable pub read_condition : List Lexeme → Read Cond
-read_condition (Signed LeftBracket ∷ Signed Bang ∷ Worded word ∷ Signed RightBracket ∷ rest) = condition_on word.class true >>= λ c. Some (c, rest)
-read_condition (Signed LeftBracket ∷ Worded word ∷ Signed RightBracket ∷ rest) = condition_on word.class false >>= λ c. Some (c, rest)
-read_condition (Signed LeftBracket ∷ rest) = None
+read_condition (Punctuated LeftBracket ∷ Punctuated Bang ∷ Worded word ∷ Punctuated RightBracket ∷ rest) = condition_on word.class true >>= λ c. Some (c, rest)
+read_condition (Punctuated LeftBracket ∷ Worded word ∷ Punctuated RightBracket ∷ rest) = condition_on word.class false >>= λ c. Some (c, rest)
+read_condition (Punctuated LeftBracket ∷ rest) = None
 read_condition rest = Some (Always, rest)
 
 abbrev pub is_dotted : WordClass → Bool
@@ -205,9 +205,9 @@ is_conditional Always = false
 is_conditional (If register zero) = true
 
 -- what stands before the operands; a directive has neither `||` nor a condition
-unfoldable pub read_head : List Lexeme → Read Head
+unfoldable pub read_head : List Lexeme → Read StatementHead
 read_head lexemes =
-    let bars = read_bars lexemes in
+    let bars = read_parallel_bars lexemes in
     read_condition bars.1 >>= λ c.
     read_word c.1 >>= λ w.
     read_unit w.0.class w.1 >>= λ u.

@@ -5,12 +5,12 @@ use Rattle.c6x_base.specs.declared.side.Side.{Side}
 use Rattle.c6x_base.specs.declared.side.Side.TheVariants.{A, B}
 use Rattle.c6x_lex.specs.declared.token.Token.{Token}
 use Rattle.c6x_lex.specs.declared.kind.TokenKind.{TokenKind}
-use Rattle.c6x_lex.specs.declared.kind.TokenKind.TheVariants.{Word as WordToken, Number as NumberToken, Text as TextToken, Sign as SignToken, NewLine}
+use Rattle.c6x_lex.specs.declared.kind.TokenKind.TheVariants.{Word as WordToken, Number as NumberToken, Text as TextToken, Punctuator as PunctuatorToken, NewLine}
 use Rattle.c6x_asm_lines.specs.declared.register.Register.{Register}
-use Rattle.c6x_asm_lines.specs.declared.sign.Sign.{Sign}
-use Rattle.c6x_asm_lines.specs.declared.sign.Sign.TheVariants.{Colon, Comma, LeftBracket, RightBracket, LeftParenthesis, RightParenthesis, Star, Plus, Minus, Bang, Percent, Bars}
+use Rattle.c6x_asm_lines.specs.declared.punctuator.Punctuator.{Punctuator}
+use Rattle.c6x_asm_lines.specs.declared.punctuator.Punctuator.TheVariants.{Colon, Comma, LeftBracket, RightBracket, LeftParenthesis, RightParenthesis, Star, Plus, Minus, Bang, Percent, ParallelBars}
 use Rattle.c6x_asm_lines.specs.declared.lexeme.Lexeme.{Lexeme}
-use Rattle.c6x_asm_lines.specs.declared.lexeme.Lexeme.TheVariants.{Word as Worded, Number as Numbered, Text, Sign as Signed}
+use Rattle.c6x_asm_lines.specs.declared.lexeme.Lexeme.TheVariants.{Word as Worded, Number as Numbered, Text, Punctuator as Punctuated}
 use Rattle.c6x_asm_lines.specs.declared.word.WordClass.{WordClass}
 use Rattle.c6x_asm_lines.specs.declared.word.WordClass.TheVariants.{Register as RegisterClass, Dotted, Nop, Other}
 use Rattle.c6x_asm_lines.specs.Grammar.{◌>>=◌}
@@ -75,11 +75,11 @@ number_of (a ∷ x ∷ ds) = if x == 120 then digits_value 16 ds else digits_val
 number_of bs = digits_value 10 bs
 
 -- the sign that begins with this byte
-unfoldable pub sign_of : ℕ → Sign
-sign_of b =
+unfoldable pub punctuator_of : ℕ → Punctuator
+punctuator_of b =
     if b == 58 then Colon else if b == 44 then Comma else if b == 91 then LeftBracket else if b == 93 then RightBracket
     else if b == 40 then LeftParenthesis else if b == 41 then RightParenthesis else if b == 42 then Star else if b == 43 then Plus
-    else if b == 45 then Minus else if b == 33 then Bang else if b == 37 then Percent else Bars
+    else if b == 45 then Minus else if b == 33 then Bang else if b == 37 then Percent else ParallelBars
 
 abbrev pub first_of : List ℕ → ℕ
 first_of [] = 0
@@ -89,7 +89,7 @@ abbrev pub lexeme_with : TokenKind → ℕ → ℕ → List ℕ → Option Lexem
 lexeme_with WordToken at len bytes = Some (Worded (record { at = at; len = len; class = class_of bytes }))
 lexeme_with NumberToken at len bytes = Some (Numbered (number_of bytes))
 lexeme_with TextToken at len bytes = Some (Text (at + 1) (len - 2))
-lexeme_with SignToken at len bytes = Some (Signed (sign_of (first_of bytes)))
+lexeme_with PunctuatorToken at len bytes = Some (Punctuated (punctuator_of (first_of bytes)))
 lexeme_with NewLine at len bytes = None
 
 -- what a token stands for; None at the end of a line

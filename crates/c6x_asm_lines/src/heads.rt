@@ -1,11 +1,11 @@
 ghost use Rattle.std.specs.Prelude.{◌≡◌};
-ghost use Rattle.c6x_asm_lines.specs.Grammar.{is_name, read_label, read_bars, cond_reg_of, condition_on, read_condition, read_word, read_unit, read_head};
+ghost use Rattle.c6x_asm_lines.specs.Grammar.{is_name, read_label, read_parallel_bars, cond_reg_of, condition_on, read_condition, read_word, read_unit, read_head};
 
-use crate::head::Head;
+use crate::statement_head::StatementHead;
 use crate::lexeme::Lexeme;
 use crate::register::Register;
-use crate::rest::Rest;
-use crate::sign::Sign;
+use crate::remaining::Remaining;
+use crate::punctuator::Punctuator;
 use crate::word::{Word, WordClass};
 use c6x_base::Side;
 use c6x_instr::{Cond, CondReg};
@@ -21,27 +21,27 @@ fn is_name(word: Word) -> bool
 
 /// A label with its colon, if one is next.
 #[tactic(auto, unfolding(crate::specs::Grammar::read_label))]
-pub fn read_label<'t>(lexemes: &'t [Lexeme]) -> Option<(Option<Word>, Rest<'t>)>
+pub fn read_label<'t>(lexemes: &'t [Lexeme]) -> Option<(Option<Word>, Remaining<'t>)>
     ensures { result ≡ read_label lexemes.now }
 {
     match lexemes {
-        [Lexeme::Word(word), Lexeme::Sign(Sign::Colon), rest @ ..] => {
+        [Lexeme::Word(word), Lexeme::Punctuator(Punctuator::Colon), rest @ ..] => {
             if is_name(*word) {
-                Some((Some(*word), Rest::of(rest)))
+                Some((Some(*word), Remaining::of(rest)))
             } else {
                 None
             }
         }
-        _ => Some((None, Rest::of(lexemes))),
+        _ => Some((None, Remaining::of(lexemes))),
     }
 }
 
-fn read_bars<'t>(lexemes: &'t [Lexeme]) -> (bool, Rest<'t>)
-    ensures { result ≡ read_bars lexemes.now }
+fn read_parallel_bars<'t>(lexemes: &'t [Lexeme]) -> (bool, Remaining<'t>)
+    ensures { result ≡ read_parallel_bars lexemes.now }
 {
     match lexemes {
-        [Lexeme::Sign(Sign::Bars), rest @ ..] => (true, Rest::of(rest)),
-        _ => (false, Rest::of(lexemes)),
+        [Lexeme::Punctuator(Punctuator::ParallelBars), rest @ ..] => (true, Remaining::of(rest)),
+        _ => (false, Remaining::of(lexemes)),
     }
 }
 
@@ -72,48 +72,48 @@ fn condition_on(class: WordClass, zero: bool) -> Option<Cond>
 }
 
 #[tactic(auto, unfolding(crate::specs::Grammar::read_condition))]
-fn read_condition<'t>(lexemes: &'t [Lexeme]) -> Option<(Cond, Rest<'t>)>
+fn read_condition<'t>(lexemes: &'t [Lexeme]) -> Option<(Cond, Remaining<'t>)>
     ensures { result ≡ read_condition lexemes.now }
 {
     match lexemes {
         [
-            Lexeme::Sign(Sign::LeftBracket),
-            Lexeme::Sign(Sign::Bang),
+            Lexeme::Punctuator(Punctuator::LeftBracket),
+            Lexeme::Punctuator(Punctuator::Bang),
             Lexeme::Word(word),
-            Lexeme::Sign(Sign::RightBracket),
+            Lexeme::Punctuator(Punctuator::RightBracket),
             rest @ ..,
         ] => {
             let condition = condition_on(word.class, true)?;
-            Some((condition, Rest::of(rest)))
+            Some((condition, Remaining::of(rest)))
         }
         [
-            Lexeme::Sign(Sign::LeftBracket),
+            Lexeme::Punctuator(Punctuator::LeftBracket),
             Lexeme::Word(word),
-            Lexeme::Sign(Sign::RightBracket),
+            Lexeme::Punctuator(Punctuator::RightBracket),
             rest @ ..,
         ] => {
             let condition = condition_on(word.class, false)?;
-            Some((condition, Rest::of(rest)))
+            Some((condition, Remaining::of(rest)))
         }
-        [Lexeme::Sign(Sign::LeftBracket), ..] => None,
-        _ => Some((Cond::Always, Rest::of(lexemes))),
+        [Lexeme::Punctuator(Punctuator::LeftBracket), ..] => None,
+        _ => Some((Cond::Always, Remaining::of(lexemes))),
     }
 }
 
-fn read_word<'t>(lexemes: &'t [Lexeme]) -> Option<(Word, Rest<'t>)>
+fn read_word<'t>(lexemes: &'t [Lexeme]) -> Option<(Word, Remaining<'t>)>
     ensures { result ≡ read_word lexemes.now }
 {
     match lexemes {
-        [Lexeme::Word(word), rest @ ..] => Some((*word, Rest::of(rest))),
+        [Lexeme::Word(word), rest @ ..] => Some((*word, Remaining::of(rest))),
         _ => None,
     }
 }
 
-fn read_unit<'t>(class: WordClass, lexemes: &'t [Lexeme]) -> Option<(Option<Word>, Rest<'t>)>
+fn read_unit<'t>(class: WordClass, lexemes: &'t [Lexeme]) -> Option<(Option<Word>, Remaining<'t>)>
     ensures { result ≡ read_unit class lexemes.now }
 {
     match class {
-        WordClass::Dotted | WordClass::Nop => Some((None, Rest::of(lexemes))),
+        WordClass::Dotted | WordClass::Nop => Some((None, Remaining::of(lexemes))),
         _ => {
             let (word, rest) = read_word(lexemes)?;
             match word.class {
@@ -126,10 +126,10 @@ fn read_unit<'t>(class: WordClass, lexemes: &'t [Lexeme]) -> Option<(Option<Word
 
 /// What stands before the operands.
 #[tactic(auto, unfolding(crate::specs::Grammar::read_head))]
-pub fn read_head<'t>(lexemes: &'t [Lexeme]) -> Option<(Head, Rest<'t>)>
+pub fn read_head<'t>(lexemes: &'t [Lexeme]) -> Option<(StatementHead, Remaining<'t>)>
     ensures { result ≡ read_head lexemes.now }
 {
-    let (chained, rest) = read_bars(lexemes);
+    let (chained, rest) = read_parallel_bars(lexemes);
     let (condition, rest) = read_condition(rest.lexemes())?;
     let (word, rest) = read_word(rest.lexemes())?;
     let (unit, rest) = read_unit(word.class, rest.lexemes())?;
@@ -138,7 +138,7 @@ pub fn read_head<'t>(lexemes: &'t [Lexeme]) -> Option<(Head, Rest<'t>)>
         return None;
     }
     Some((
-        Head {
+        StatementHead {
             chained,
             condition,
             word,

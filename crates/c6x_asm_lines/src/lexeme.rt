@@ -1,4 +1,4 @@
-use crate::sign::Sign;
+use crate::punctuator::Punctuator;
 use crate::word::Word;
 
 /// A token of one line with what it stands for.
@@ -9,5 +9,5 @@ pub enum Lexeme {
     Number(Option<u32>),
     /// The offset of the first byte between the quotes, and the number of bytes there.
     Text { at: u32, len: u32 },
-    Sign(Sign),
+    Punctuator(Punctuator),
 }

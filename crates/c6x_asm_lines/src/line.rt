@@ -1,4 +1,4 @@
-use crate::head::Head;
+use crate::statement_head::StatementHead;
 use crate::operand::Operand;
 use crate::word::Word;
 use c6x_base::Row;
@@ -6,7 +6,7 @@ use c6x_base::Row;
 /// An instruction or a directive.
 #[derive(Debug, Drop)]
 pub struct Statement {
-    pub head: Head,
+    pub head: StatementHead,
     pub operands: Row<Operand>,
 }
 

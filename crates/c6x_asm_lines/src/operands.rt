@@ -7,20 +7,20 @@ use crate::addresses::read_address;
 use crate::lexeme::Lexeme;
 use crate::operand::Operand;
 use crate::parts::read_value;
-use crate::rest::Rest;
-use crate::sign::Sign;
+use crate::remaining::Remaining;
+use crate::punctuator::Punctuator;
 use std::alloc::{AllocError, Global};
 
 #[tactic(auto, unfolding(crate::specs::Grammar::read_operand))]
-fn read_operand<'t>(lexemes: &'t [Lexeme]) -> Option<(Operand, Rest<'t>)>
+fn read_operand<'t>(lexemes: &'t [Lexeme]) -> Option<(Operand, Remaining<'t>)>
     ensures { result ≡ read_operand lexemes.now }
 {
     match lexemes {
         [Lexeme::Text { at, len }, rest @ ..] => Some((
             Operand::Text { at: *at, len: *len },
-            Rest::of(rest),
+            Remaining::of(rest),
         )),
-        [Lexeme::Sign(Sign::Star), rest @ ..] => {
+        [Lexeme::Punctuator(Punctuator::Star), rest @ ..] => {
             let (address, rest) = read_address(rest)?;
             Some((Operand::Address(address), rest))
         }
@@ -50,7 +50,7 @@ fn comma_at(lexemes: &[Lexeme]) -> usize
 {
     let mut n = 0;
     for lexeme in lexemes {
-        if matches!(lexeme, Lexeme::Sign(Sign::Comma)) {
+        if matches!(lexeme, Lexeme::Punctuator(Punctuator::Comma)) {
             return n;
         }
         n += 1;

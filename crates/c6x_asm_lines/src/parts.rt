@@ -1,15 +1,15 @@
 ghost use Rattle.std.specs.Prelude.{◌≡◌};
-ghost use Rattle.c6x_asm_lines.specs.Grammar.{read_number, read_addend, read_plain, read_value, close_bracket, close_parenthesis};
+ghost use Rattle.c6x_asm_lines.specs.Grammar.{read_number, read_addend, read_primary, read_value, close_bracket, close_parenthesis};
 
 use crate::lexeme::Lexeme;
 use crate::number::Number;
-use crate::plain::Plain;
-use crate::rest::Rest;
-use crate::sign::Sign;
+use crate::primary::Primary;
+use crate::remaining::Remaining;
+use crate::punctuator::Punctuator;
 use crate::value::Value;
 use crate::word::WordClass;
 
-fn read_number<'t>(lexemes: &'t [Lexeme]) -> Option<(Number, Rest<'t>)>
+fn read_number<'t>(lexemes: &'t [Lexeme]) -> Option<(Number, Remaining<'t>)>
     ensures { result ≡ read_number lexemes.now }
 {
     match lexemes {
@@ -18,29 +18,29 @@ fn read_number<'t>(lexemes: &'t [Lexeme]) -> Option<(Number, Rest<'t>)>
                 negative: false,
                 size: *size,
             },
-            Rest::of(rest),
+            Remaining::of(rest),
         )),
-        [Lexeme::Sign(Sign::Minus), Lexeme::Number(size), rest @ ..] => Some((
+        [Lexeme::Punctuator(Punctuator::Minus), Lexeme::Number(size), rest @ ..] => Some((
             Number {
                 negative: true,
                 size: *size,
             },
-            Rest::of(rest),
+            Remaining::of(rest),
         )),
         _ => None,
     }
 }
 
 // A sign and a number, or nothing.
-fn read_addend<'t>(lexemes: &'t [Lexeme]) -> Option<(Option<Number>, Rest<'t>)>
+fn read_addend<'t>(lexemes: &'t [Lexeme]) -> Option<(Option<Number>, Remaining<'t>)>
     ensures { result ≡ read_addend lexemes.now }
 {
     match lexemes {
-        [Lexeme::Sign(Sign::Plus), rest @ ..] => {
+        [Lexeme::Punctuator(Punctuator::Plus), rest @ ..] => {
             let (number, rest) = read_number(rest)?;
             Some((Some(number), rest))
         }
-        [Lexeme::Sign(Sign::Minus), rest @ ..] => {
+        [Lexeme::Punctuator(Punctuator::Minus), rest @ ..] => {
             let (number, rest) = read_number(rest)?;
             Some((
                 Some(Number {
@@ -50,23 +50,23 @@ fn read_addend<'t>(lexemes: &'t [Lexeme]) -> Option<(Option<Number>, Rest<'t>)>
                 rest,
             ))
         }
-        _ => Some((None, Rest::of(lexemes))),
+        _ => Some((None, Remaining::of(lexemes))),
     }
 }
 
-fn read_plain<'t>(lexemes: &'t [Lexeme]) -> Option<(Plain, Rest<'t>)>
-    ensures { result ≡ read_plain lexemes.now }
+fn read_primary<'t>(lexemes: &'t [Lexeme]) -> Option<(Primary, Remaining<'t>)>
+    ensures { result ≡ read_primary lexemes.now }
 {
     match lexemes {
         [Lexeme::Word(word), rest @ ..] => match word.class {
-            WordClass::Register(register) => Some((Plain::Register(register), Rest::of(rest))),
+            WordClass::Register(register) => Some((Primary::Register(register), Remaining::of(rest))),
             _ => {
                 if word.len > 64 {
                     return None;
                 }
                 let (addend, rest) = read_addend(rest)?;
                 Some((
-                    Plain::Symbol {
+                    Primary::Symbol {
                         name: *word,
                         addend,
                     },
@@ -76,44 +76,44 @@ fn read_plain<'t>(lexemes: &'t [Lexeme]) -> Option<(Plain, Rest<'t>)>
         },
         _ => {
             let (number, rest) = read_number(lexemes)?;
-            Some((Plain::Number(number), rest))
+            Some((Primary::Number(number), rest))
         }
     }
 }
 
 /// What stands behind a `]`, if that is next.
-pub fn close_bracket<'t>(lexemes: &'t [Lexeme]) -> Option<Rest<'t>>
+pub fn close_bracket<'t>(lexemes: &'t [Lexeme]) -> Option<Remaining<'t>>
     ensures { result ≡ close_bracket lexemes.now }
 {
     match lexemes {
-        [Lexeme::Sign(Sign::RightBracket), rest @ ..] => Some(Rest::of(rest)),
+        [Lexeme::Punctuator(Punctuator::RightBracket), rest @ ..] => Some(Remaining::of(rest)),
         _ => None,
     }
 }
 
 /// What stands behind a `)`, if that is next.
-pub fn close_parenthesis<'t>(lexemes: &'t [Lexeme]) -> Option<Rest<'t>>
+pub fn close_parenthesis<'t>(lexemes: &'t [Lexeme]) -> Option<Remaining<'t>>
     ensures { result ≡ close_parenthesis lexemes.now }
 {
     match lexemes {
-        [Lexeme::Sign(Sign::RightParenthesis), rest @ ..] => Some(Rest::of(rest)),
+        [Lexeme::Punctuator(Punctuator::RightParenthesis), rest @ ..] => Some(Remaining::of(rest)),
         _ => None,
     }
 }
 
 /// A register, a number or a symbol, or one of these with a named kind.
 #[tactic(auto, unfolding(crate::specs::Grammar::read_value))]
-pub fn read_value<'t>(lexemes: &'t [Lexeme]) -> Option<(Value, Rest<'t>)>
+pub fn read_value<'t>(lexemes: &'t [Lexeme]) -> Option<(Value, Remaining<'t>)>
     ensures { result ≡ read_value lexemes.now }
 {
     match lexemes {
         [
-            Lexeme::Sign(Sign::Percent),
+            Lexeme::Punctuator(Punctuator::Percent),
             Lexeme::Word(kind),
-            Lexeme::Sign(Sign::LeftParenthesis),
+            Lexeme::Punctuator(Punctuator::LeftParenthesis),
             rest @ ..,
         ] => {
-            let (inner, rest) = read_plain(rest)?;
+            let (inner, rest) = read_primary(rest)?;
             let rest = close_parenthesis(rest.lexemes())?;
             Some((
                 Value::Kind {
@@ -123,16 +123,16 @@ pub fn read_value<'t>(lexemes: &'t [Lexeme]) -> Option<(Value, Rest<'t>)>
                 rest,
             ))
         }
-        [Lexeme::Sign(Sign::Percent), Lexeme::Word(kind), rest @ ..] => Some((
+        [Lexeme::Punctuator(Punctuator::Percent), Lexeme::Word(kind), rest @ ..] => Some((
             Value::Kind {
                 kind: *kind,
                 inner: None,
             },
-            Rest::of(rest),
+            Remaining::of(rest),
         )),
         _ => {
-            let (plain, rest) = read_plain(lexemes)?;
-            Some((Value::Plain(plain), rest))
+            let (plain, rest) = read_primary(lexemes)?;
+            Some((Value::Primary(plain), rest))
         }
     }
 }

@@ -1,10 +1,10 @@
-use crate::plain::Plain;
+use crate::primary::Primary;
 use crate::word::Word;
 
 /// An operand that is no address and no text.
 #[derive(Debug, Clone, Copy, PartialEq, Eq)]
 pub enum Value {
-    Plain(Plain),
+    Primary(Primary),
     /// `%kind(operand)`, or `%kind` alone.
-    Kind { kind: Word, inner: Option<Plain> },
+    Kind { kind: Word, inner: Option<Primary> },
 }

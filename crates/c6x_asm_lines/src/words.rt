@@ -1,10 +1,10 @@
 ghost use Rattle.std.specs.Prelude.{◌≡◌, ℕ, ◌+◌, ◌^◌, ◌<◌, ◌≤◌, List, ◌∷◌, length};
-ghost use Rattle.c6x_asm_lines.specs.Lexemes.{side_of, one_digit, two_digits, register_of, is_nop, begins_with_dot, class_of, digit_of, digits_value, number_of, sign_of, first_of, lexeme_of};
+ghost use Rattle.c6x_asm_lines.specs.Lexemes.{side_of, one_digit, two_digits, register_of, is_nop, begins_with_dot, class_of, digit_of, digits_value, number_of, punctuator_of, first_of, lexeme_of};
 ghost use Rattle.c6x_asm_lines.specs.Digits.{one_more};
 
 use crate::lexeme::Lexeme;
 use crate::register::Register;
-use crate::sign::Sign;
+use crate::punctuator::Punctuator;
 use crate::word::{Word, WordClass};
 use c6x_base::Side;
 use c6x_lex::{Token, TokenKind};
@@ -156,23 +156,23 @@ fn number_of(bytes: &[u8]) -> Option<u32>
     }
 }
 
-#[tactic(auto, unfolding(crate::specs::Lexemes::sign_of))]
-fn sign_of(b: u8) -> Sign
-    ensures { result ≡ sign_of b }
+#[tactic(auto, unfolding(crate::specs::Lexemes::punctuator_of))]
+fn punctuator_of(b: u8) -> Punctuator
+    ensures { result ≡ punctuator_of b }
 {
     match b {
-        b':' => Sign::Colon,
-        b',' => Sign::Comma,
-        b'[' => Sign::LeftBracket,
-        b']' => Sign::RightBracket,
-        b'(' => Sign::LeftParenthesis,
-        b')' => Sign::RightParenthesis,
-        b'*' => Sign::Star,
-        b'+' => Sign::Plus,
-        b'-' => Sign::Minus,
-        b'!' => Sign::Bang,
-        b'%' => Sign::Percent,
-        _ => Sign::Bars,
+        b':' => Punctuator::Colon,
+        b',' => Punctuator::Comma,
+        b'[' => Punctuator::LeftBracket,
+        b']' => Punctuator::RightBracket,
+        b'(' => Punctuator::LeftParenthesis,
+        b')' => Punctuator::RightParenthesis,
+        b'*' => Punctuator::Star,
+        b'+' => Punctuator::Plus,
+        b'-' => Punctuator::Minus,
+        b'!' => Punctuator::Bang,
+        b'%' => Punctuator::Percent,
+        _ => Punctuator::ParallelBars,
     }
 }
 
@@ -205,7 +205,7 @@ pub fn lexeme_of(text: &[u8], token: Token) -> Option<Lexeme>
             at: token.at + 1,
             len: token.len.saturating_sub(2),
         }),
-        TokenKind::Sign => Some(Lexeme::Sign(sign_of(first_of(bytes)))),
+        TokenKind::Punctuator => Some(Lexeme::Punctuator(punctuator_of(first_of(bytes)))),
         TokenKind::NewLine => None,
     }
 }

@@ -1,6 +1,6 @@
 pub mod Kinds
 pub mod Names
-pub mod Parts
+pub mod Sections
 pub mod Symbols
 pub mod Named
 pub mod Sound

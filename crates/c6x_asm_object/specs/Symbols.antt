@@ -9,7 +9,7 @@ abbrev pub symbol_name : List ℕ → Symbol → List ℕ
 symbol_name text s = bytes_at text s.at s.len
 
 unfoldable pub no_symbol : Symbol
-no_symbol = record { at = 0; len = 0; spot = None; global = false; weak = false; hidden = false }
+no_symbol = record { at = 0; len = 0; definition = None; global = false; weak = false; hidden = false }
 
 -- the name with this number
 abbrev pub symbol_of : List Symbol → ℕ → Symbol
@@ -20,7 +20,7 @@ unfoldable pub symbol_at : List ℕ → List Symbol → List ℕ → Option ℕ
 symbol_at text symbols name = position (λ s. bytes_eq (symbol_name text s) name) symbols
 
 unfoldable pub fresh : Word → Symbol
-fresh word = record { at = word.at; len = word.len; spot = None; global = false; weak = false; hidden = false }
+fresh word = record { at = word.at; len = word.len; definition = None; global = false; weak = false; hidden = false }
 
 abbrev pub or_added : Option ℕ → List Symbol → Word → List Symbol × ℕ
 or_added (Some i) symbols word = (symbols, i)

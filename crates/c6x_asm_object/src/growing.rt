@@ -1,20 +1,20 @@
 ghost use Rattle.std.specs.Prelude.{◌≡◌, ◌+◌, ◌-◌, ◌%◌, ◌^◌, ◌<◌, ◌≤◌, length, OnOk};
-ghost use Rattle.c6x_asm_object.specs.Parts.{empty_part, is_zero, with_bytes, with_zeros, padding, with_align, with_entry, with_number, odd, with_parallel, with_instruction};
+ghost use Rattle.c6x_asm_object.specs.Sections.{empty_section, is_zero, with_bytes, with_zeros, padding, with_align, with_entry, with_number, odd, with_parallel, with_instruction};
 
-use crate::entry::Entry;
+use crate::reloc_entry::RelocEntry;
 use crate::items::Items;
 use crate::naming::first_align;
-use crate::part::Part;
-use crate::part_kind::PartKind;
-use crate::slot::Slot;
+use crate::asm_section::AsmSection;
+use crate::section_kind::SectionKind;
+use crate::instr_word::InstrWord;
 use std::alloc::{AllocError, Global};
 
 /// A section without contents.
-#[tactic(auto, unfolding(crate::specs::Parts::empty_part))]
-pub fn empty_part(alloc: Global, at: u32, len: u32, kind: PartKind) -> Part
-    ensures { result ≡ empty_part at len kind }
+#[tactic(auto, unfolding(crate::specs::Sections::empty_section))]
+pub fn empty_section(alloc: Global, at: u32, len: u32, kind: SectionKind) -> AsmSection
+    ensures { result ≡ empty_section at len kind }
 {
-    Part {
+    AsmSection {
         at,
         len,
         kind,
@@ -22,37 +22,37 @@ pub fn empty_part(alloc: Global, at: u32, len: u32, kind: PartKind) -> Part
         size: 0,
         bytes: Items::new(alloc),
         entries: Items::new(alloc),
-        slots: Items::new(alloc),
+        instructions: Items::new(alloc),
         last: None,
     }
 }
 
-fn is_zero(kind: PartKind) -> bool
+fn is_zero(kind: SectionKind) -> bool
     ensures { result ≡ is_zero kind }
 {
-    matches!(kind, PartKind::Zero)
+    matches!(kind, SectionKind::Zero)
 }
 
-#[tactic(auto, unfolding(crate::specs::Parts::with_bytes))]
-fn put(part: &mut Part, bytes: &[u8]) -> Result<(), AllocError>
-    requires { part.old.size + length bytes.now < 2 ^ 32 }
-    ensures { OnOk result (part.new ≡ with_bytes bytes.now part.old) }
+#[tactic(auto, unfolding(crate::specs::Sections::with_bytes))]
+fn put(section: &mut AsmSection, bytes: &[u8]) -> Result<(), AllocError>
+    requires { section.old.size + length bytes.now < 2 ^ 32 }
+    ensures { OnOk result (section.new ≡ with_bytes bytes.now section.old) }
 {
-    part.bytes.extend(bytes)?;
-    part.size += bytes.len() as u32;
+    section.bytes.extend(bytes)?;
+    section.size += bytes.len() as u32;
     Ok(())
 }
 
 /// `.space`.
-#[tactic(auto, unfolding(crate::specs::Parts::with_zeros))]
-pub fn put_zeros(part: &mut Part, count: u32) -> Result<(), AllocError>
-    requires { part.old.size + count < 2 ^ 32 }
-    ensures { OnOk result (part.new ≡ with_zeros count part.old) }
+#[tactic(auto, unfolding(crate::specs::Sections::with_zeros))]
+pub fn put_zeros(section: &mut AsmSection, count: u32) -> Result<(), AllocError>
+    requires { section.old.size + count < 2 ^ 32 }
+    ensures { OnOk result (section.new ≡ with_zeros count section.old) }
 {
-    if !is_zero(part.kind) {
-        part.bytes.extend_zeros(count)?;
+    if !is_zero(section.kind) {
+        section.bytes.extend_zeros(count)?;
     }
-    part.size += count;
+    section.size += count;
     Ok(())
 }
 
@@ -66,41 +66,41 @@ pub fn padding(size: u32, align: u32) -> u32
 }
 
 /// `.align`.
-#[tactic(auto, unfolding(crate::specs::Parts::with_align))]
-pub fn put_align(part: &mut Part, align: u32) -> Result<(), AllocError>
+#[tactic(auto, unfolding(crate::specs::Sections::with_align))]
+pub fn put_align(section: &mut AsmSection, align: u32) -> Result<(), AllocError>
     requires some { 1 ≤ align }
-    requires room { part.old.size + padding part.old.size align < 2 ^ 32 }
-    ensures { OnOk result (part.new ≡ with_align align part.old) }
+    requires room { section.old.size + padding section.old.size align < 2 ^ 32 }
+    ensures { OnOk result (section.new ≡ with_align align section.old) }
 {
-    let count = padding(part.size, align);
-    part.align = part.align.max(align);
-    put_zeros(part, count)
+    let count = padding(section.size, align);
+    section.align = section.align.max(align);
+    put_zeros(section, count)
 }
 
-fn put_entry(part: &mut Part, entry: Option<Entry>) -> Result<(), AllocError>
-    ensures { OnOk result (part.new ≡ with_entry entry part.old) }
+fn put_entry(section: &mut AsmSection, entry: Option<RelocEntry>) -> Result<(), AllocError>
+    ensures { OnOk result (section.new ≡ with_entry entry section.old) }
 {
     match entry {
         None => Ok(()),
-        Some(entry) => part.entries.push(entry),
+        Some(entry) => section.entries.push(entry),
     }
 }
 
 /// A number of one, two or four bytes with its relocation.
-#[tactic(auto, unfolding(crate::specs::Parts::with_number))]
+#[tactic(auto, unfolding(crate::specs::Sections::with_number))]
 pub fn put_number(
-    part: &mut Part,
+    section: &mut AsmSection,
     size: u32,
     bits: u32,
-    entry: Option<Entry>,
+    entry: Option<RelocEntry>,
 ) -> Result<(), AllocError>
     requires few { size ≤ 4 }
-    requires room { part.old.size + 4 < 2 ^ 32 }
-    ensures { OnOk result (part.new ≡ with_number size bits entry part.old) }
+    requires room { section.old.size + 4 < 2 ^ 32 }
+    ensures { OnOk result (section.new ≡ with_number size bits entry section.old) }
 {
-    put_entry(part, entry)?;
+    put_entry(section, entry)?;
     let bytes = bits.to_le_bytes();
-    put(part, &bytes[..size as usize])
+    put(section, &bytes[..size as usize])
 }
 
 fn odd(b: u8) -> u8
@@ -109,28 +109,28 @@ fn odd(b: u8) -> u8
     if b % 2 == 0 { b + 1 } else { b }
 }
 
-#[tactic(auto, unfolding(crate::specs::Parts::with_parallel))]
-fn set_parallel(part: &mut Part, chained: bool)
-    ensures is { part.new ≡ with_parallel chained part.old }
-    ensures size { part.new.size ≡ part.old.size }
+#[tactic(auto, unfolding(crate::specs::Sections::with_parallel))]
+fn set_parallel(section: &mut AsmSection, chained: bool)
+    ensures is { section.new ≡ with_parallel chained section.old }
+    ensures size { section.new.size ≡ section.old.size }
 {
     if chained {
-        let at = part.size.saturating_sub(4) as usize;
-        let bytes = part.bytes.as_slice();
+        let at = section.size.saturating_sub(4) as usize;
+        let bytes = section.bytes.as_slice();
         let byte = if at < bytes.len() { bytes[at] } else { 0 };
-        part.bytes.write(at, odd(byte));
+        section.bytes.write(at, odd(byte));
     }
 }
 
 /// An instruction with its relocation.
-#[tactic(auto, unfolding(crate::specs::Parts::with_instruction))]
-pub fn put_instruction(part: &mut Part, slot: Slot, entry: Option<Entry>) -> Result<(), AllocError>
-    requires { part.old.size + 4 < 2 ^ 32 }
-    ensures { OnOk result (part.new ≡ with_instruction slot entry part.old) }
+#[tactic(auto, unfolding(crate::specs::Sections::with_instruction))]
+pub fn put_instruction(section: &mut AsmSection, instruction: InstrWord, entry: Option<RelocEntry>) -> Result<(), AllocError>
+    requires { section.old.size + 4 < 2 ^ 32 }
+    ensures { OnOk result (section.new ≡ with_instruction instruction entry section.old) }
 {
-    set_parallel(part, slot.chained);
-    put_number(part, 4, slot.word, entry)?;
-    part.slots.push(slot)?;
-    part.last = Some(part.size);
+    set_parallel(section, instruction.chained);
+    put_number(section, 4, instruction.word, entry)?;
+    section.instructions.push(instruction)?;
+    section.last = Some(section.size);
     Ok(())
 }

@@ -25,7 +25,7 @@ fn fresh(word: Word) -> Symbol
     Symbol {
         at: word.at,
         len: word.len,
-        spot: None,
+        definition: None,
         global: false,
         weak: false,
         hidden: false,

@@ -2,7 +2,7 @@ ghost use Rattle.std.specs.Prelude.{◌≡◌, codes};
 ghost use Rattle.std.specs.Str.{bytes_eq};
 ghost use Rattle.c6x_asm_object.specs.Kinds.{is_under, kind_named, first_align};
 
-use crate::part_kind::PartKind;
+use crate::section_kind::SectionKind;
 
 fn same_bytes(a: &[u8], b: &[u8]) -> bool
     ensures { result ≡ bytes_eq a.now b.now }
@@ -18,26 +18,26 @@ fn is_under(name: &[u8], front: &[u8], bytes: &[u8]) -> bool
 
 /// What a section with this name holds.
 #[tactic(auto, unfolding(crate::specs::Kinds::kind_named))]
-pub fn kind_named(bytes: &[u8]) -> PartKind
+pub fn kind_named(bytes: &[u8]) -> SectionKind
     ensures { result ≡ kind_named bytes.now }
 {
     if is_under(b".text", b".text.", bytes) {
-        PartKind::Text
+        SectionKind::Text
     } else if is_under(b".const", b".const.", bytes) {
-        PartKind::Constant
+        SectionKind::Constant
     } else if is_under(b".bss", b".bss.", bytes) || is_under(b".far", b".far.", bytes) {
-        PartKind::Zero
+        SectionKind::Zero
     } else {
-        PartKind::Data
+        SectionKind::Data
     }
 }
 
 /// The alignment that a section begins with.
-pub fn first_align(kind: PartKind) -> u32
+pub fn first_align(kind: SectionKind) -> u32
     ensures { result ≡ first_align kind }
 {
     match kind {
-        PartKind::Text => 32,
+        SectionKind::Text => 32,
         _ => 8,
     }
 }

@@ -1,4 +1,4 @@
-use crate::spot::Spot;
+use crate::definition::Definition;
 
 /// A name of the text.
 #[derive(Debug, Clone, Copy, PartialEq, Eq)]
@@ -7,7 +7,7 @@ pub struct Symbol {
     pub at: u32,
     /// The number of its bytes.
     pub len: u32,
-    pub spot: Option<Spot>,
+    pub definition: Option<Definition>,
     pub global: bool,
     pub weak: bool,
     pub hidden: bool,

@@ -10,10 +10,10 @@ use Rattle.c6x_asm_lines.specs.declared.offset.Offset.{Offset}
 use Rattle.c6x_asm_lines.specs.declared.offset.Offset.TheVariants.{Missing, Bracket, Parenthesis}
 use Rattle.c6x_asm_lines.specs.declared.operand.Operand.{Operand}
 use Rattle.c6x_asm_lines.specs.declared.operand.Operand.TheVariants.{Address as AddressOperand}
-use Rattle.c6x_asm_lines.specs.declared.plain.Plain.TheVariants.{Register as PlainRegister, Number as PlainNumber}
+use Rattle.c6x_asm_lines.specs.declared.primary.Primary.TheVariants.{Register as PrimaryRegister, Number as PrimaryNumber}
 use Rattle.c6x_asm_lines.specs.declared.register.Register.{Register}
 use Rattle.c6x_asm_lines.specs.declared.value.Value.{Value}
-use Rattle.c6x_asm_lines.specs.declared.value.Value.TheVariants.{Plain as PlainValue}
+use Rattle.c6x_asm_lines.specs.declared.value.Value.TheVariants.{Primary as PrimaryValue}
 use Rattle.c6x_asm_operands.specs.declared.place.Place.{Place}
 use Rattle.c6x_asm_operands.specs.declared.place.Place.TheVariants.{Short, Long}
 use Rattle.c6x_asm_operands.specs.declared.range.Range.{Range}
@@ -43,8 +43,8 @@ mode_number PostIncrement = 11
 
 -- the mode and the offset in brackets: a constant, or a register of the unit's side
 abbrev pub bracketed : Side → Mode → Value → Result (ℕ × ℕ) AsmRule
-bracketed side mode (PlainValue (PlainRegister register)) = register_on side register >>= λ r. Ok (mode_number mode + 4, r)
-bracketed side mode (PlainValue (PlainNumber n)) = number_in five_bits n >>= λ c. Ok (mode_number mode, c)
+bracketed side mode (PrimaryValue (PrimaryRegister register)) = register_on side register >>= λ r. Ok (mode_number mode + 4, r)
+bracketed side mode (PrimaryValue (PrimaryNumber n)) = number_in five_bits n >>= λ c. Ok (mode_number mode, c)
 bracketed side mode _ = Err BadOperand
 
 -- no offset is 0, and 1 where the base is changed

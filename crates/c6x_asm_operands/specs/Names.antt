@@ -17,8 +17,8 @@ use Rattle.c6x_reloc.specs.declared.reloc_kind.RelocKind.{RelocKind}
 use Rattle.c6x_reloc.specs.declared.reloc_kind.RelocKind.TheVariants.{NONE, ABS32, ABS16, ABS8, PCR_S21, PCR_S12, PCR_S7, ABS_S16, ABS_L16, ABS_H16, SBR_U15_B, SBR_U15_H, SBR_U15_W, SBR_S16, SBR_L16_B, SBR_L16_H, SBR_L16_W, SBR_H16_B, SBR_H16_H, SBR_H16_W, SBR_GOT_U15_W, SBR_GOT_L16_W, SBR_GOT_H16_W, DSBT_INDEX, JUMP_SLOT, ALIGN, FPHEAD, NOCMP}
 use Rattle.c6x_asm_operands.specs.declared.mnemonic.Mnemonic.{Mnemonic}
 use Rattle.c6x_asm_operands.specs.declared.mnemonic.Mnemonic.TheVariants.{Two, Move, B as BranchTo, Bnop, Callp, AddKpc, Nop, Memory}
-use Rattle.c6x_asm_operands.specs.declared.path.Path.{Path}
-use Rattle.c6x_asm_operands.specs.declared.path.Path.TheVariants.{Own, Cross, Value}
+use Rattle.c6x_asm_operands.specs.declared.data_path.DataPath.{DataPath}
+use Rattle.c6x_asm_operands.specs.declared.data_path.DataPath.TheVariants.{Own, Cross, Value}
 use Rattle.c6x_asm_operands.specs.declared.unit.Unit.{Unit}
 
 abbrev pub arith_name : Arith → List ℕ
@@ -128,17 +128,17 @@ crossing_kind b = if is_letter 76 108 b then Some L else if is_letter 83 115 b t
 abbrev pub unit_kind : ℕ → Option UnitKind
 unit_kind b = if is_letter 68 100 b then Some D else crossing_kind b
 
-abbrev pub unit_with : Option UnitKind → Option Side → Option Path → Option Unit
+abbrev pub unit_with : Option UnitKind → Option Side → Option DataPath → Option Unit
 unit_with (Some kind) (Some side) (Some path) = Some (record { kind = kind; side = side; path = path })
 unit_with _ _ _ = None
 
 abbrev pub memory_kind : ℕ → Option UnitKind
 memory_kind b = if is_letter 68 100 b then Some D else None
 
-abbrev pub cross_path : ℕ → Option Path
+abbrev pub cross_path : ℕ → Option DataPath
 cross_path x = if is_letter 88 120 x then Some Cross else None
 
-abbrev pub value_path : ℕ → ℕ → Option Path
+abbrev pub value_path : ℕ → ℕ → Option DataPath
 value_path t value = if is_letter 84 116 t then option_map (λ (v : Side). Value v) (unit_side value) else None
 
 -- `.L1` to `.M2`; `.L1X` and the like; `.D1T2` and the like; in either case

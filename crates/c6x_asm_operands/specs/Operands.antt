@@ -8,16 +8,16 @@ use Rattle.c6x_reloc.specs.declared.reloc_kind.RelocKind.TheVariants.{DSBT_INDEX
 use Rattle.c6x_asm_lines.specs.declared.register.Register.{Register}
 use Rattle.c6x_asm_lines.specs.declared.number.Number.{Number}
 use Rattle.c6x_asm_lines.specs.declared.word.Word.{Word}
-use Rattle.c6x_asm_lines.specs.declared.plain.Plain.{Plain}
-use Rattle.c6x_asm_lines.specs.declared.plain.Plain.TheVariants.{Register as PlainRegister, Number as PlainNumber, Symbol as PlainSymbol}
+use Rattle.c6x_asm_lines.specs.declared.primary.Primary.{Primary}
+use Rattle.c6x_asm_lines.specs.declared.primary.Primary.TheVariants.{Register as PrimaryRegister, Number as PrimaryNumber, Symbol as PrimarySymbol}
 use Rattle.c6x_asm_lines.specs.declared.value.Value.{Value}
-use Rattle.c6x_asm_lines.specs.declared.value.Value.TheVariants.{Plain as PlainValue, Kind as KindValue}
+use Rattle.c6x_asm_lines.specs.declared.value.Value.TheVariants.{Primary as PrimaryValue, Kind as KindValue}
 use Rattle.c6x_asm_lines.specs.declared.operand.Operand.{Operand}
 use Rattle.c6x_asm_lines.specs.declared.operand.Operand.TheVariants.{Value as ValueOperand}
 use Rattle.c6x_asm_lines.specs.declared.rule.AsmRule.{AsmRule}
 use Rattle.c6x_asm_lines.specs.declared.rule.AsmRule.TheVariants.{Syntax, UnknownWord, Operand as BadOperand}
 use Rattle.c6x_asm_operands.specs.declared.range.Range.{Range}
-use Rattle.c6x_asm_operands.specs.declared.made.Field.{Field}
+use Rattle.c6x_asm_operands.specs.declared.relocatable.Field.{Field}
 use Rattle.c6x_asm_lines.specs.Rules.{◌>>=◌}
 use Rattle.c6x_asm_operands.specs.Names.{kind_of}
 use Rattle.c6x_asm_operands.specs.Numbers.{number_in}
@@ -32,12 +32,12 @@ register_on side register = if same_side register.side side then Ok register.num
 
 -- a register of this side
 unfoldable pub register_operand : Side → Operand → Result ℕ AsmRule
-register_operand side (ValueOperand (PlainValue (PlainRegister register))) = register_on side register
+register_operand side (ValueOperand (PrimaryValue (PrimaryRegister register))) = register_on side register
 register_operand side _ = Err BadOperand
 
 -- a number
 unfoldable pub constant_operand : Range → Operand → Result ℕ AsmRule
-constant_operand range (ValueOperand (PlainValue (PlainNumber n))) = number_in range n
+constant_operand range (ValueOperand (PrimaryValue (PrimaryNumber n))) = number_in range n
 constant_operand range _ = Err BadOperand
 
 abbrev pub addend_range : Range
@@ -62,20 +62,20 @@ abbrev pub index_field : RelocKind → Result Field AsmRule
 index_field kind = if is_index kind then Ok (record { bits = 0; relocation = Some (record { kind = kind; symbol = None; addend = 0 }) }) else Err Syntax
 
 -- what stands in the parentheses of a kind
-abbrev pub inner_field : RelocKind → Option Plain → Result Field AsmRule
+abbrev pub inner_field : RelocKind → Option Primary → Result Field AsmRule
 inner_field kind None = index_field kind
-inner_field kind (Some (PlainSymbol name addend)) = symbol_field kind name addend
+inner_field kind (Some (PrimarySymbol name addend)) = symbol_field kind name addend
 inner_field kind (Some _) = Err BadOperand
 
-abbrev pub named_field : RelocKind → Option RelocKind → Option Plain → Result Field AsmRule
+abbrev pub named_field : RelocKind → Option RelocKind → Option Primary → Result Field AsmRule
 named_field default None inner = Err UnknownWord
 named_field default (Some kind) inner = if same_field kind default then inner_field kind inner else Err BadOperand
 
 -- a number in this range, or an expression, whose relocation has this kind or a named one of the same field
 unfoldable pub value_field : List ℕ → RelocKind → Range → Value → Result Field AsmRule
-value_field text default range (PlainValue (PlainNumber n)) = number_in range n >>= λ bits. Ok (record { bits = bits; relocation = None })
-value_field text default range (PlainValue (PlainSymbol name addend)) = symbol_field default name addend
-value_field text default range (PlainValue (PlainRegister register)) = Err BadOperand
+value_field text default range (PrimaryValue (PrimaryNumber n)) = number_in range n >>= λ bits. Ok (record { bits = bits; relocation = None })
+value_field text default range (PrimaryValue (PrimarySymbol name addend)) = symbol_field default name addend
+value_field text default range (PrimaryValue (PrimaryRegister register)) = Err BadOperand
 value_field text default range (KindValue kind inner) = named_field default (kind_of (bytes_at text kind.at kind.len)) inner
 
 unfoldable pub field_operand : List ℕ → RelocKind → Range → Operand → Result Field AsmRule

@@ -5,7 +5,7 @@ use crate::numbers::number_in;
 use crate::operands::{register_on, value_field};
 use crate::place::Place;
 use crate::range::Range;
-use c6x_asm_lines::{Address, AsmRule, both, Mode, Offset, Operand, Plain, Register, Value};
+use c6x_asm_lines::{Address, AsmRule, both, Mode, Offset, Operand, Primary, Register, Value};
 use c6x_base::Side;
 use c6x_reloc::RelocKind;
 
@@ -44,11 +44,11 @@ fn bracketed(side: Side, mode: Mode, value: Value) -> Result<(u8, u8), AsmRule>
     ensures { result ≡ bracketed side mode value }
 {
     match value {
-        Value::Plain(Plain::Register(register)) => {
+        Value::Primary(Primary::Register(register)) => {
             let offset = register_on(side, register)?;
             Ok((mode_number(mode) + 4, offset))
         }
-        Value::Plain(Plain::Number(number)) => {
+        Value::Primary(Primary::Number(number)) => {
             let offset = number_in(FIVE_BITS, number)?;
             Ok((mode_number(mode), offset as u8))
         }

@@ -3,7 +3,7 @@ ghost use Rattle.std.specs.Str.{bytes_eq, str_eq_ignore_ascii_case};
 ghost use Rattle.c6x_asm_operands.specs.Names.{arith_name, move_name, access_name, mnemonic_name, mnemonic_of, kind_name, kind_of, unit_side, crossing_kind, unit_kind, memory_kind, cross_path, value_path, unit_with, unit_of};
 
 use crate::mnemonic::Mnemonic;
-use crate::path::Path;
+use crate::data_path::DataPath;
 use crate::unit::Unit;
 use c6x_base::Side;
 use c6x_instr::{Access, Arith, MoveKind, UnitKind};
@@ -237,7 +237,7 @@ fn unit_kind(b: u8) -> Option<UnitKind>
     }
 }
 
-fn unit_with(kind: Option<UnitKind>, side: Option<Side>, path: Option<Path>) -> Option<Unit>
+fn unit_with(kind: Option<UnitKind>, side: Option<Side>, path: Option<DataPath>) -> Option<Unit>
     ensures { result ≡ unit_with kind side path }
 {
     match (kind, side, path) {
@@ -255,22 +255,22 @@ fn memory_kind(b: u8) -> Option<UnitKind>
     }
 }
 
-fn cross_path(x: u8) -> Option<Path>
+fn cross_path(x: u8) -> Option<DataPath>
     ensures { result ≡ cross_path x }
 {
     match x {
-        b'X' | b'x' => Some(Path::Cross),
+        b'X' | b'x' => Some(DataPath::Cross),
         _ => None,
     }
 }
 
-fn value_path(t: u8, value: u8) -> Option<Path>
+fn value_path(t: u8, value: u8) -> Option<DataPath>
     ensures { result ≡ value_path t value }
 {
     match t {
         b'T' | b't' => {
             let side = unit_side(value)?;
-            Some(Path::Value(side))
+            Some(DataPath::Value(side))
         }
         _ => None,
     }
@@ -282,7 +282,7 @@ pub fn unit_of(word: &[u8]) -> Option<Unit>
     ensures { result ≡ unit_of word.now }
 {
     match word {
-        [b'.', kind, side] => unit_with(unit_kind(*kind), unit_side(*side), Some(Path::Own)),
+        [b'.', kind, side] => unit_with(unit_kind(*kind), unit_side(*side), Some(DataPath::Own)),
         [b'.', kind, side, x] => unit_with(crossing_kind(*kind), unit_side(*side), cross_path(*x)),
         [b'.', kind, side, t, value] => unit_with(
             memory_kind(*kind),

@@ -3,12 +3,12 @@ ghost use Rattle.c6x_reloc.specs.Table.{row_of};
 ghost use Rattle.c6x_asm_operands.specs.Operands.{same_side, register_on, register_operand, constant_operand, addend_of, symbol_field, same_field, is_index, index_field, inner_field, named_field, value_field, field_operand};
 ghost use Rattle.c6x_asm_lines.specs.Bytes.{bytes_at};
 
-use crate::made::Field;
+use crate::relocatable::Field;
 use crate::names::kind_of;
 use crate::numbers::number_in;
 use crate::range::Range;
 use crate::relocation::Relocation;
-use c6x_asm_lines::{AsmRule, Number, Operand, Plain, Register, Value, Word};
+use c6x_asm_lines::{AsmRule, Number, Operand, Primary, Register, Value, Word};
 use c6x_base::Side;
 use c6x_reloc::{RelocKind, width};
 
@@ -46,7 +46,7 @@ pub fn register_operand(side: Side, operand: Operand) -> Result<u8, AsmRule>
     ensures { result ≡ register_operand side operand }
 {
     match operand {
-        Operand::Value(Value::Plain(Plain::Register(register))) => register_on(side, register),
+        Operand::Value(Value::Primary(Primary::Register(register))) => register_on(side, register),
         _ => Err(AsmRule::Operand),
     }
 }
@@ -62,7 +62,7 @@ pub fn constant_operand(range: Range, operand: Operand) -> Result<u32, AsmRule>
     ensures most { range.below ≡ 0 → IfOk result (λ bits. bits ≤ range.most) }
 {
     match operand {
-        Operand::Value(Value::Plain(Plain::Number(number))) => number_in(range, number),
+        Operand::Value(Value::Primary(Primary::Number(number))) => number_in(range, number),
         _ => Err(AsmRule::Operand),
     }
 }
@@ -152,13 +152,13 @@ fn index_field(kind: RelocKind) -> Result<Field, AsmRule>
     }
 }
 
-fn inner_field(kind: RelocKind, inner: Option<Plain>) -> Result<Field, AsmRule>
+fn inner_field(kind: RelocKind, inner: Option<Primary>) -> Result<Field, AsmRule>
     ensures is { result ≡ inner_field kind inner }
     ensures zero { IfOk result (λ field. field.bits ≡ 0) }
 {
     match inner {
         None => index_field(kind),
-        Some(Plain::Symbol { name, addend }) => symbol_field(kind, name, addend),
+        Some(Primary::Symbol { name, addend }) => symbol_field(kind, name, addend),
         Some(_) => Err(AsmRule::Operand),
     }
 }
@@ -166,7 +166,7 @@ fn inner_field(kind: RelocKind, inner: Option<Plain>) -> Result<Field, AsmRule>
 fn named_field(
     default: RelocKind,
     kind: Option<RelocKind>,
-    inner: Option<Plain>,
+    inner: Option<Primary>,
 ) -> Result<Field, AsmRule>
     ensures is { result ≡ named_field default kind inner }
     ensures zero { IfOk result (λ field. field.bits ≡ 0) }
@@ -199,15 +199,15 @@ pub fn value_field(
     ensures most { range.below ≡ 0 → IfOk result (λ field. field.bits ≤ range.most) }
 {
     match value {
-        Value::Plain(Plain::Number(number)) => {
+        Value::Primary(Primary::Number(number)) => {
             let bits = number_in(range, number)?;
             Ok(Field {
                 bits,
                 relocation: None,
             })
         }
-        Value::Plain(Plain::Symbol { name, addend }) => symbol_field(default, name, addend),
-        Value::Plain(Plain::Register(_)) => Err(AsmRule::Operand),
+        Value::Primary(Primary::Symbol { name, addend }) => symbol_field(default, name, addend),
+        Value::Primary(Primary::Register(_)) => Err(AsmRule::Operand),
         Value::Kind { kind, inner } => named_field(default, kind_of(bytes_at(text, kind.at, kind.len)), inner),
     }
 }

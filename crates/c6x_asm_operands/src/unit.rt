@@ -1,4 +1,4 @@
-use crate::path::Path;
+use crate::data_path::DataPath;
 use c6x_base::Side;
 use c6x_instr::UnitKind;
 
@@ -7,5 +7,5 @@ use c6x_instr::UnitKind;
 pub struct Unit {
     pub kind: UnitKind,
     pub side: Side,
-    pub path: Path,
+    pub path: DataPath,
 }

@@ -3,7 +3,7 @@ pub mod Sound
 pub mod Results
 pub mod Growth
 pub mod Names
-pub mod Directives
+pub mod DirectiveLaws
 pub mod Adding
 pub mod Steps
 pub mod Runs

@@ -8,7 +8,7 @@ use Rattle.std.proofs.lemmas.List.Quantifiers.{position-Some}
 use Rattle.c6x_asm_lines.specs.declared.word.Word.{Word}
 use Rattle.c6x_asm_operands.specs.declared.relocation.Relocation.{Relocation}
 use Rattle.c6x_asm_lines.specs.Bytes.{bytes_at}
-use Rattle.c6x_asm_object.specs.declared.entry.Entry.{Entry}
+use Rattle.c6x_asm_object.specs.declared.reloc_entry.RelocEntry.{RelocEntry}
 use Rattle.c6x_asm_object.specs.declared.symbol.Symbol.{Symbol}
 use Rattle.c6x_asm_object.specs.Symbols.{fresh, interned, no_symbol, or_added, symbol_at, symbol_name, symbol_of}
 use Rattle.c6x_asm_steps.specs.States.{name_changed, named_entry, relocated}
@@ -53,7 +53,7 @@ changed_added text sections symbols word change keeps sound =
     (omega (arith, added.more, length-set names place now), All-set (IsSymbolSound sections) names place now here added.symbols)
 
 -- names with that of a relocation, and its entry
-pub record AreNamed (sections : ℕ) (before : List Symbol) (after : List Symbol × Option Entry) : Type 0 where
+pub record AreNamed (sections : ℕ) (before : List Symbol) (after : List Symbol × Option RelocEntry) : Type 0 where
   pub more : length before ≤ length after.0
   pub symbols : All (IsSymbolSound sections) after.0
   pub entry : IfSome after.1 (IsEntrySound (length after.0))

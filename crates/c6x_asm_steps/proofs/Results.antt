@@ -3,7 +3,7 @@ use Rattle.std.proofs.Common.{◌≡◌, Bool, true, false, Option, Some, None, 
 use Rattle.std.specs.Prelude.{IfSome, if◌then◌else◌}
 use Rattle.c6x_asm_lines.specs.declared.rule.AsmRule.{AsmRule}
 use Rattle.c6x_asm_lines.specs.Rules.{◌>>=◌}
-use Rattle.c6x_asm_steps.specs.Instructing.{fails}
+use Rattle.c6x_asm_steps.specs.Instructions.{fails}
 
 -- what holds if there is a value holds of the value
 pub at_some : {T : Type 0} (P : T → Type 0) (o : Option T) (x : T) → IfSome o P → o ≡ Some x → P x

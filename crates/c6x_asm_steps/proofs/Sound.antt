@@ -3,24 +3,24 @@ use Rattle.std.proofs.Common.{◌≡◌, ℕ, ◌+◌, ◌∷◌, ◌++◌, [], 
 use Rattle.std.proofs.lemmas.List.{map-append}
 use Rattle.std.proofs.Math.Seq.{map-set_same}
 use Rattle.std.specs.Str.{bytes_eq}
-use Rattle.c6x_asm_directives.specs.declared.mark.Mark.{Mark}
-use Rattle.c6x_asm_directives.specs.declared.mark.Mark.TheVariants.{Global, Weak, Hidden}
+use Rattle.c6x_asm_directives.specs.declared.symbol_attribute.SymbolAttribute.{SymbolAttribute}
+use Rattle.c6x_asm_directives.specs.declared.symbol_attribute.SymbolAttribute.TheVariants.{Global, Weak, Hidden}
 use Rattle.c6x_asm_lines.specs.Bytes.{bytes_at}
-use Rattle.c6x_asm_object.specs.declared.part.Part.{Part}
-use Rattle.c6x_asm_object.specs.declared.spot.Spot.{Spot}
+use Rattle.c6x_asm_object.specs.declared.asm_section.AsmSection.{AsmSection}
+use Rattle.c6x_asm_object.specs.declared.definition.Definition.{Definition}
 use Rattle.c6x_asm_object.specs.declared.symbol.Symbol.{Symbol}
 use Rattle.c6x_asm_object.specs.Names.{name_at}
-use Rattle.c6x_asm_object.specs.Named.{part_name, part_names}
+use Rattle.c6x_asm_object.specs.Named.{section_name, section_names}
 use Rattle.c6x_asm_object.specs.Symbols.{names_total, no_symbol, symbol_name, symbol_of}
 use Rattle.c6x_asm_object.proofs.Finding.{position_along}
-use Rattle.c6x_asm_steps.specs.States.{part_at, symbol_changed, placed_at, marked_by}
+use Rattle.c6x_asm_steps.specs.States.{section_index, symbol_changed, placed_at, with_attribute}
 
-pub name_of_part : (text : List ℕ) (parts : List Part) (name : List ℕ) → name_at (part_names text parts) name ≡ part_at text parts name
-unfolding name_at part_at
-name_of_part text parts name = position_along (λ n. bytes_eq n name) (part_name text) parts
+pub name_of_section : (text : List ℕ) (sections : List AsmSection) (name : List ℕ) → name_at (section_names text sections) name ≡ section_index text sections name
+unfolding name_at section_index
+name_of_section text sections name = position_along (λ n. bytes_eq n name) (section_name text) sections
 
-pub part_names_push : (text : List ℕ) (parts : List Part) (p : Part) → part_names text (parts ++ p ∷ []) ≡ part_names text parts ++ part_name text p ∷ []
-part_names_push text parts p = map-append (part_name text) parts (p ∷ [])
+pub section_names_push : (text : List ℕ) (sections : List AsmSection) (p : AsmSection) → section_names text (sections ++ p ∷ []) ≡ section_names text sections ++ section_name text p ∷ []
+section_names_push text sections p = map-append (section_name text) sections (p ∷ [])
 
 -- a symbol that stays where its name stands
 abbrev StandsAs : Symbol → Symbol → Type 0
@@ -42,19 +42,19 @@ total_changed : (text : List ℕ) (symbols : List Symbol) (i : ℕ) (change : Sy
 total_changed text symbols i change stands =
     total_lengths text (symbol_changed symbols i change) ∙ ap lengths (names_changed text symbols i change stands) ∙ sym (total_lengths text symbols)
 
-stands_marked : (mark : Mark) (s : Symbol) → StandsAs (marked_by mark s) s
+stands_marked : (attribute : SymbolAttribute) (s : Symbol) → StandsAs (with_attribute attribute s) s
 stands_marked Global s = (refl, refl)
 stands_marked Weak s = (refl, refl)
 stands_marked Hidden s = (refl, refl)
 
-pub names_placed : (text : List ℕ) (symbols : List Symbol) (i : ℕ) (spot : Spot) → map (symbol_name text) (symbol_changed symbols i (placed_at spot)) ≡ map (symbol_name text) symbols
-names_placed text symbols i spot = names_changed text symbols i (placed_at spot) (refl, refl)
+pub names_placed : (text : List ℕ) (symbols : List Symbol) (i : ℕ) (definition : Definition) → map (symbol_name text) (symbol_changed symbols i (placed_at definition)) ≡ map (symbol_name text) symbols
+names_placed text symbols i definition = names_changed text symbols i (placed_at definition) (refl, refl)
 
-pub total_placed : (text : List ℕ) (symbols : List Symbol) (i : ℕ) (spot : Spot) → names_total text (symbol_changed symbols i (placed_at spot)) ≡ names_total text symbols
-total_placed text symbols i spot = total_changed text symbols i (placed_at spot) (refl, refl)
+pub total_placed : (text : List ℕ) (symbols : List Symbol) (i : ℕ) (definition : Definition) → names_total text (symbol_changed symbols i (placed_at definition)) ≡ names_total text symbols
+total_placed text symbols i definition = total_changed text symbols i (placed_at definition) (refl, refl)
 
-pub names_marked : (text : List ℕ) (symbols : List Symbol) (i : ℕ) (mark : Mark) → map (symbol_name text) (symbol_changed symbols i (marked_by mark)) ≡ map (symbol_name text) symbols
-names_marked text symbols i mark = names_changed text symbols i (marked_by mark) (stands_marked mark (symbol_of symbols i))
+pub names_marked : (text : List ℕ) (symbols : List Symbol) (i : ℕ) (attribute : SymbolAttribute) → map (symbol_name text) (symbol_changed symbols i (with_attribute attribute)) ≡ map (symbol_name text) symbols
+names_marked text symbols i attribute = names_changed text symbols i (with_attribute attribute) (stands_marked attribute (symbol_of symbols i))
 
-pub total_marked : (text : List ℕ) (symbols : List Symbol) (i : ℕ) (mark : Mark) → names_total text (symbol_changed symbols i (marked_by mark)) ≡ names_total text symbols
-total_marked text symbols i mark = total_changed text symbols i (marked_by mark) (stands_marked mark (symbol_of symbols i))
+pub total_marked : (text : List ℕ) (symbols : List Symbol) (i : ℕ) (attribute : SymbolAttribute) → names_total text (symbol_changed symbols i (with_attribute attribute)) ≡ names_total text symbols
+total_marked text symbols i attribute = total_changed text symbols i (with_attribute attribute) (stands_marked attribute (symbol_of symbols i))

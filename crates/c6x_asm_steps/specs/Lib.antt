@@ -1,6 +1,6 @@
 pub mod States
-pub mod Adding
-pub mod Instructing
-pub mod Stepping
+pub mod Directives
+pub mod Instructions
+pub mod Lines
 pub mod Keeping
 pub mod Touching

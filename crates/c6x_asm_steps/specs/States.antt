@@ -5,42 +5,42 @@ use Rattle.c6x_asm_lines.specs.declared.word.Word.{Word}
 use Rattle.c6x_asm_lines.specs.declared.rule.AsmRule.{AsmRule}
 use Rattle.c6x_asm_lines.specs.declared.rule.AsmRule.TheVariants.{DuplicateLabel, NoSection}
 use Rattle.c6x_asm_operands.specs.declared.relocation.Relocation.{Relocation}
-use Rattle.c6x_asm_directives.specs.declared.mark.Mark.{Mark}
-use Rattle.c6x_asm_directives.specs.declared.mark.Mark.TheVariants.{Global, Weak, Hidden}
+use Rattle.c6x_asm_directives.specs.declared.symbol_attribute.SymbolAttribute.{SymbolAttribute}
+use Rattle.c6x_asm_directives.specs.declared.symbol_attribute.SymbolAttribute.TheVariants.{Global, Weak, Hidden}
 use Rattle.c6x_asm_lines.specs.Bytes.{bytes_at}
 use Rattle.c6x_asm_lines.specs.Rules.{lowest}
-use Rattle.c6x_asm_object.specs.declared.entry.Entry.{Entry}
+use Rattle.c6x_asm_object.specs.declared.reloc_entry.RelocEntry.{RelocEntry}
 use Rattle.c6x_asm_object.specs.declared.object.Object.{Object}
-use Rattle.c6x_asm_object.specs.declared.part.Part.{Part}
-use Rattle.c6x_asm_object.specs.declared.spot.Spot.{Spot}
+use Rattle.c6x_asm_object.specs.declared.asm_section.AsmSection.{AsmSection}
+use Rattle.c6x_asm_object.specs.declared.definition.Definition.{Definition}
 use Rattle.c6x_asm_object.specs.declared.symbol.Symbol.{Symbol}
 use Rattle.c6x_asm_object.specs.Kinds.{kind_named}
-use Rattle.c6x_asm_object.specs.Named.{AreNamed, part_names}
-use Rattle.c6x_asm_object.specs.Parts.{empty_part, part_of}
+use Rattle.c6x_asm_object.specs.Named.{AreNamed, section_names}
+use Rattle.c6x_asm_object.specs.Sections.{empty_section, section_at}
 use Rattle.c6x_asm_object.specs.Symbols.{interned, symbol_at, symbol_of}
 
 pub record State : Type 0 where
-  pub parts : List Part
+  pub sections : List AsmSection
   pub now : Option ℕ
   pub symbols : List Symbol
 
 abbrev pub state_of : Object → State
-state_of o = record { parts = o.parts.items; now = o.current; symbols = o.symbols.list.items }
+state_of o = record { sections = o.sections.items; now = o.current; symbols = o.symbols.list.items }
 
 -- lines go to a section that there is, and the names kept beside the sections and symbols are theirs in this text
 pub record IsSound (text : List ℕ) (o : Object) : Type 0 where
-  pub current : IfSome o.current (λ i. i < vec_len o.parts)
-  pub parts : o.part_names ≡ part_names text o.parts.items
+  pub current : IfSome o.current (λ i. i < vec_len o.sections)
+  pub sections : o.section_names ≡ section_names text o.sections.items
   pub symbols : AreNamed text o.symbols
 
-abbrev pub placed_at : Spot → Symbol → Symbol
-placed_at spot s = record s { spot = Some spot }
+abbrev pub placed_at : Definition → Symbol → Symbol
+placed_at definition s = record s { definition = Some definition }
 
--- what a mark says of a symbol
-abbrev pub marked_by : Mark → Symbol → Symbol
-marked_by Global s = record s { global = true }
-marked_by Weak s = record s { weak = true }
-marked_by Hidden s = record s { hidden = true }
+-- what a attribute says of a symbol
+abbrev pub with_attribute : SymbolAttribute → Symbol → Symbol
+with_attribute Global s = record s { global = true }
+with_attribute Weak s = record s { weak = true }
+with_attribute Hidden s = record s { hidden = true }
 
 abbrev pub symbol_changed : List Symbol → ℕ → (Symbol → Symbol) → List Symbol
 symbol_changed symbols i change = slice_set symbols i (change (symbol_of symbols i))
@@ -49,54 +49,54 @@ symbol_changed symbols i change = slice_set symbols i (change (symbol_of symbols
 unfoldable pub name_changed : List ℕ → List Symbol → Word → (Symbol → Symbol) → List Symbol
 name_changed text symbols word change = symbol_changed (interned text symbols word).0 (interned text symbols word).1 change
 
-abbrev pub spot_of : List Symbol → Option ℕ → Option Spot
-spot_of symbols None = None
-spot_of symbols (Some i) = (symbol_of symbols i).spot
+abbrev pub definition_of : List Symbol → Option ℕ → Option Definition
+definition_of symbols None = None
+definition_of symbols (Some i) = (symbol_of symbols i).definition
 
-abbrev pub fault_of_spot : Option Spot → Option AsmRule
-fault_of_spot None = None
-fault_of_spot (Some spot) = Some DuplicateLabel
+abbrev pub fault_of_definition : Option Definition → Option AsmRule
+fault_of_definition None = None
+fault_of_definition (Some definition) = Some DuplicateLabel
 
 -- the name has a place already
 unfoldable pub placed_fault : List ℕ → List Symbol → Word → Option AsmRule
-placed_fault text symbols word = fault_of_spot (spot_of symbols (symbol_at text symbols (bytes_at text word.at word.len)))
+placed_fault text symbols word = fault_of_definition (definition_of symbols (symbol_at text symbols (bytes_at text word.at word.len)))
 
 abbrev pub section_fault : Option ℕ → Option AsmRule
 section_fault None = Some NoSection
 section_fault (Some i) = None
 
 -- the place of a label
-abbrev pub label_spot : List Part → Option ℕ → Spot
-label_spot parts None = record { section = 0; value = 0; size = 0 }
-label_spot parts (Some i) = record { section = i + 1; value = (part_of parts i).size; size = 0 }
+abbrev pub label_definition : List AsmSection → Option ℕ → Definition
+label_definition sections None = record { section = 0; value = 0; size = 0 }
+label_definition sections (Some i) = record { section = i + 1; value = (section_at sections i).size; size = 0 }
 
 unfoldable pub label_fault : List ℕ → State → Word → Option AsmRule
 label_fault text s word = lowest (placed_fault text s.symbols word) (section_fault s.now)
 
 unfoldable pub labelled : List ℕ → State → Word → State
-labelled text s word = record s { symbols = name_changed text s.symbols word (placed_at (label_spot s.parts s.now)) }
+labelled text s word = record s { symbols = name_changed text s.symbols word (placed_at (label_definition s.sections s.now)) }
 
 -- the number of the section with this name
-unfoldable pub part_at : List ℕ → List Part → List ℕ → Option ℕ
-part_at text parts name = position (λ p. bytes_eq (bytes_at text p.at p.len) name) parts
+unfoldable pub section_index : List ℕ → List AsmSection → List ℕ → Option ℕ
+section_index text sections name = position (λ p. bytes_eq (bytes_at text p.at p.len) name) sections
 
 abbrev pub entered_or_new : List ℕ → ℕ → ℕ → State → Option ℕ → State
 entered_or_new text at len s (Some i) = record s { now = Some i }
-entered_or_new text at len s None = record s { parts = s.parts ++ empty_part at len (kind_named (bytes_at text at len)) ∷ []; now = Some (length s.parts) }
+entered_or_new text at len s None = record s { sections = s.sections ++ empty_section at len (kind_named (bytes_at text at len)) ∷ []; now = Some (length s.sections) }
 
 -- the section with this name, which is added if it is new
 unfoldable pub entered : List ℕ → ℕ → ℕ → State → State
-entered text at len s = entered_or_new text at len s (part_at text s.parts (bytes_at text at len))
+entered text at len s = entered_or_new text at len s (section_index text s.sections (bytes_at text at len))
 
-abbrev pub entry_with : Relocation → ℕ → Option ℕ → Entry
+abbrev pub entry_with : Relocation → ℕ → Option ℕ → RelocEntry
 entry_with r offset symbol = record { offset = offset; kind = r.kind; symbol = symbol; addend = r.addend }
 
-abbrev pub named_entry : List ℕ → List Symbol → Relocation → ℕ → Option Word → List Symbol × Option Entry
+abbrev pub named_entry : List ℕ → List Symbol → Relocation → ℕ → Option Word → List Symbol × Option RelocEntry
 named_entry text symbols r offset None = (symbols, Some (entry_with r offset None))
 named_entry text symbols r offset (Some word) = ((interned text symbols word).0, Some (entry_with r offset (Some (interned text symbols word).1)))
 
 -- the entry of a relocation at an offset, and the names with its symbol
-unfoldable pub relocated : List ℕ → List Symbol → ℕ → Option Relocation → List Symbol × Option Entry
+unfoldable pub relocated : List ℕ → List Symbol → ℕ → Option Relocation → List Symbol × Option RelocEntry
 relocated text symbols offset None = (symbols, None)
 relocated text symbols offset (Some r) = named_entry text symbols r offset r.symbol
 

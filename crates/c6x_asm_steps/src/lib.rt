@@ -1,15 +1,15 @@
 //! What a line of assembly text adds to the sections and symbols so far.
 #![tactic(auto)]
 
-mod directing;
-mod entering;
-mod instructing;
-mod labelling;
-mod marking;
-mod relocating;
-mod stepping;
+mod directives;
+mod sections;
+mod instructions;
+mod labels;
+mod symbols;
+mod relocations;
+mod lines;
 
-pub use stepping::step;
+pub use lines::step;
 
 #[cfg(test)]
 mod tests;

@@ -45,8 +45,8 @@ fn two_sections_and_a_label(rt: HostRuntime) -> Result<(), Fail> {
     assert!(rt; step_over(alloc, text, 2, &mut object)?);
     assert!(rt; step_over(alloc, text, 3, &mut object)?);
     assert!(rt; step_over(alloc, text, 4, &mut object)?);
-    assert_eq!(rt; object.parts.len(), 2);
-    assert!(rt; object.parts[0].bytes.as_slice() == [0xA8, 0x02, 0x00, 0x02].as_slice());
+    assert_eq!(rt; object.sections.len(), 2);
+    assert!(rt; object.sections[0].bytes.as_slice() == [0xA8, 0x02, 0x00, 0x02].as_slice());
     assert!(rt; !step_over(alloc, text, 5, &mut object)?);
     assert_eq!(rt; object.current, Some(0));
     assert_eq!(rt; object.symbols.list.len(), 1);

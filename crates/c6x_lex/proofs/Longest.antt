@@ -6,9 +6,9 @@ use Rattle.std.proofs.lemmas.List.Sums.{prefix_len-le-length, prefix_len_stops, 
 use Rattle.std.proofs.lemmas.List.Folds.{list_all_at}
 use Rattle.std.specs.List.{list_all, prefix_len}
 use Rattle.c6x_lex.specs.declared.kind.TokenKind.{TokenKind}
-use Rattle.c6x_lex.specs.declared.kind.TokenKind.TheVariants.{Word, Number, Text, Sign, NewLine}
+use Rattle.c6x_lex.specs.declared.kind.TokenKind.TheVariants.{Word, Number, Text, Punctuator, NewLine}
 use Rattle.c6x_lex.specs.declared.cut.Piece.{Piece}
-use Rattle.c6x_lex.specs.Forms.{form_after, starts_word, continues_word, is_digit, is_hex_digit, ends_hex, ends_text, is_in_text, is_only, is_empty, is_sign, kind_if}
+use Rattle.c6x_lex.specs.Forms.{form_after, starts_word, continues_word, is_digit, is_hex_digit, ends_hex, ends_text, is_in_text, is_only, is_empty, is_punctuator, kind_if}
 use Rattle.c6x_lex.specs.Classes.{begins_with, hex_len}
 use Rattle.c6x_lex.specs.Tokens.{longest_within, longest_token}
 
@@ -220,7 +220,7 @@ return_form : (xs : List ℕ) → form_after 13 xs ≡ kind_if NewLine (is_only 
 unfolding form_after
 return_form xs = refl
 
-bar_form : (xs : List ℕ) → form_after 124 xs ≡ kind_if Sign (is_only 124 xs)
+bar_form : (xs : List ℕ) → form_after 124 xs ≡ kind_if Punctuator (is_only 124 xs)
 unfolding form_after
 bar_form xs = refl
 
@@ -233,18 +233,18 @@ longest_return b bs is follows = rw is (pair 13 10 bs NewLine return_form follow
 pub no_return : (b : ℕ) (bs : List ℕ) → b ≡ 13 → begins_with 10 bs ≡ false → longest_token (b ∷ bs) ≡ None
 no_return b bs is other = rw is (no_pair 13 10 bs NewLine return_form other)
 
-pub longest_bar : (b : ℕ) (bs : List ℕ) → b ≡ 124 → begins_with 124 bs ≡ true → longest_token (b ∷ bs) ≡ some_token Sign 2
-longest_bar b bs is follows = rw is (pair 124 124 bs Sign bar_form follows)
+pub longest_bar : (b : ℕ) (bs : List ℕ) → b ≡ 124 → begins_with 124 bs ≡ true → longest_token (b ∷ bs) ≡ some_token Punctuator 2
+longest_bar b bs is follows = rw is (pair 124 124 bs Punctuator bar_form follows)
 
 pub no_bar : (b : ℕ) (bs : List ℕ) → b ≡ 124 → begins_with 124 bs ≡ false → longest_token (b ∷ bs) ≡ None
-no_bar b bs is other = rw is (no_pair 124 124 bs Sign bar_form other)
+no_bar b bs is other = rw is (no_pair 124 124 bs Punctuator bar_form other)
 
-other_form : (b : ℕ) (t : Bool) → starts_word b ≡ false → is_digit b ≡ false → b ≢ 34 → b ≢ 10 → b ≢ 13 → b ≢ 124 → is_sign b ≡ t → (xs : List ℕ) → form_after b xs ≡ kind_if Sign (t && is_empty xs)
+other_form : (b : ℕ) (t : Bool) → starts_word b ≡ false → is_digit b ≡ false → b ≢ 34 → b ≢ 10 → b ≢ 13 → b ≢ 124 → is_punctuator b ≡ t → (xs : List ℕ) → form_after b xs ≡ kind_if Punctuator (t && is_empty xs)
 unfolding form_after
 other_form b t word digit quote newline return bar sign xs = rw (word, digit, ne_eqb b 34 quote, ne_eqb b 10 newline, ne_eqb b 13 return, ne_eqb b 124 bar, sign) refl
 
-pub longest_sign : (b : ℕ) (bs : List ℕ) → starts_word b ≡ false → is_digit b ≡ false → b ≢ 34 → b ≢ 10 → b ≢ 13 → b ≢ 124 → is_sign b ≡ true → longest_token (b ∷ bs) ≡ some_token Sign 1
-longest_sign b bs word digit quote newline return bar sign = alone b bs Sign (other_form b true word digit quote newline return bar sign)
+pub longest_sign : (b : ℕ) (bs : List ℕ) → starts_word b ≡ false → is_digit b ≡ false → b ≢ 34 → b ≢ 10 → b ≢ 13 → b ≢ 124 → is_punctuator b ≡ true → longest_token (b ∷ bs) ≡ some_token Punctuator 1
+longest_sign b bs word digit quote newline return bar sign = alone b bs Punctuator (other_form b true word digit quote newline return bar sign)
 
-pub no_sign : (b : ℕ) (bs : List ℕ) → starts_word b ≡ false → is_digit b ≡ false → b ≢ 34 → b ≢ 10 → b ≢ 13 → b ≢ 124 → is_sign b ≡ false → longest_token (b ∷ bs) ≡ None
+pub no_sign : (b : ℕ) (bs : List ℕ) → starts_word b ≡ false → is_digit b ≡ false → b ≢ 34 → b ≢ 10 → b ≢ 13 → b ≢ 124 → is_punctuator b ≡ false → longest_token (b ∷ bs) ≡ None
 no_sign b bs word digit quote newline return bar sign = longest-none b bs (λ m within. other_form b false word digit quote newline return bar sign (take m bs))

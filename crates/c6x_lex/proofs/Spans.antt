@@ -8,7 +8,7 @@ use Rattle.c6x_lex.specs.declared.token.Token.{Token}
 use Rattle.c6x_lex.specs.declared.cut.Piece.{Piece}
 use Rattle.c6x_lex.specs.declared.place.Place.{Place}
 use Rattle.c6x_lex.specs.Forms.{token_form, is_in_line, is_blank, comment_len}
-use Rattle.c6x_lex.specs.Tokens.{longest_within, longest_token, or_shorter, no_token, piece_after, behind, token_of, prepend, cut, tokens_from, tokens_of, Spot, AreSpans}
+use Rattle.c6x_lex.specs.Tokens.{longest_within, longest_token, or_shorter, no_token, piece_after, behind, token_of, prepend, cut, tokens_from, tokens_of, Position, AreSpans}
 use Rattle.c6x_lex.proofs.Steps.{behind_at}
 
 -- what a piece of these bytes is
@@ -80,7 +80,7 @@ spans_from text (b ∷ bs) zero at p ts here ends place few is =
     (λ skip q us start within rest. spans_from text bs skip (at + 1) q us next (omega arith) start within rest)
     (piece_after b bs) refl is
   where
-    rest_is : ((skip : ℕ) (q : Place) (us : List Token) → q.at ≡ at + 1 + skip → skip ≤ length bs → tokens_from skip q bs ≡ Ok us → AreSpans text q.at us) → (piece : Piece) (r : Result (List Token) Spot) → IsPiece (b ∷ bs) piece → tokens_from (piece.len - 1) (behind piece p) bs ≡ r → prepend (token_of piece p) r ≡ Ok ts → AreSpans text p.at ts
+    rest_is : ((skip : ℕ) (q : Place) (us : List Token) → q.at ≡ at + 1 + skip → skip ≤ length bs → tokens_from skip q bs ≡ Ok us → AreSpans text q.at us) → (piece : Piece) (r : Result (List Token) Position) → IsPiece (b ∷ bs) piece → tokens_from (piece.len - 1) (behind piece p) bs ≡ r → prepend (token_of piece p) r ≡ Ok ts → AreSpans text p.at ts
     rest_is before piece (Err spot) piece_is rest is = absurd (cc)
     rest_is before piece (Ok us) piece_is rest is =
         let all : ts ≡ token_of piece p ++ us = cc in

@@ -4,14 +4,14 @@ use Rattle.std.proofs.lemmas.List.{append_assoc, append-nil, drop_more, drop_all
 use Rattle.c6x_lex.specs.declared.token.Token.{Token}
 use Rattle.c6x_lex.specs.declared.cut.Piece.{Piece}
 use Rattle.c6x_lex.specs.declared.place.Place.{Place}
-use Rattle.c6x_lex.specs.Tokens.{piece_after, behind, is_new_line, token_of, prepend, tokens_from, tokens_of, Spot, spot_of}
+use Rattle.c6x_lex.specs.Tokens.{piece_after, behind, is_new_line, token_of, prepend, tokens_from, tokens_of, Position, spot_of}
 
 skipped : (n : ℕ) (p : Place) (bs : List ℕ) → tokens_from n p bs ≡ tokens_from 0 p (drop n bs)
 skipped zero p bs = refl
 skipped (suc n) p [] = refl
 skipped (suc n) p (b ∷ bs) = skipped n p bs
 
-prepended : (ts us : List Token) (r : Result (List Token) Spot) → prepend ts (prepend us r) ≡ prepend (ts ++ us) r
+prepended : (ts us : List Token) (r : Result (List Token) Position) → prepend ts (prepend us r) ≡ prepend (ts ++ us) r
 prepended ts us (Ok vs) = ap (λ ws. Ok ws) (sym (append_assoc ts us vs))
 prepended ts us (Err spot) = refl
 
@@ -37,6 +37,6 @@ pub tokens_begin : (text : List ℕ) → prepend [] (tokens_from 0 (record { at 
 unfolding tokens_of
 tokens_begin text = no_tokens (tokens_from 0 (record { at = 0; line = 1; start = 0 }) text)
   where
-    no_tokens : (r : Result (List Token) Spot) → prepend [] r ≡ r
+    no_tokens : (r : Result (List Token) Position) → prepend [] r ≡ r
     no_tokens (Ok ts) = refl
     no_tokens (Err spot) = refl

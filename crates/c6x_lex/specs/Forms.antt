@@ -2,7 +2,7 @@
 use Rattle.std.specs.Prelude.{ℕ, ◌+◌, ◌-◌, Bool, true, false, ◌&&◌, ◌||◌, not, nat_le, nat_lt, ◌==◌, if◌then◌else◌, List, [], ◌∷◌, length, slice_index, Option, Some, None}
 use Rattle.std.specs.List.{list_all, prefix_len}
 use Rattle.c6x_lex.specs.declared.kind.TokenKind.{TokenKind}
-use Rattle.c6x_lex.specs.declared.kind.TokenKind.TheVariants.{Word, Number, Text, Sign, NewLine}
+use Rattle.c6x_lex.specs.declared.kind.TokenKind.TheVariants.{Word, Number, Text, Punctuator, NewLine}
 
 abbrev pub is_between : ℕ → ℕ → ℕ → Bool
 is_between low high b = nat_le low b && nat_le b high
@@ -30,8 +30,8 @@ abbrev pub is_in_line : ℕ → Bool
 is_in_line b = not (b == 10)
 
 -- `:`, `,`, `[`, `]`, `(`, `)`, `*`, `+`, `-`, `!`, `%`
-abbrev pub is_sign : ℕ → Bool
-is_sign b = b == 58 || (b == 44 || (b == 91 || (b == 93 || (b == 40 || (b == 41 || (b == 42 || (b == 43 || (b == 45 || (b == 33 || b == 37)))))))))
+abbrev pub is_punctuator : ℕ → Bool
+is_punctuator b = b == 58 || (b == 44 || (b == 91 || (b == 93 || (b == 40 || (b == 41 || (b == 42 || (b == 43 || (b == 45 || (b == 33 || b == 37)))))))))
 
 -- a space or a tab
 abbrev pub is_blank : ℕ → Bool
@@ -70,8 +70,8 @@ form_after b bs =
     else if b == 34 then kind_if Text (ends_text bs)
     else if b == 10 then kind_if NewLine (is_empty bs)
     else if b == 13 then kind_if NewLine (is_only 10 bs)
-    else if b == 124 then kind_if Sign (is_only 124 bs)
-    else kind_if Sign (is_sign b && is_empty bs)
+    else if b == 124 then kind_if Punctuator (is_only 124 bs)
+    else kind_if Punctuator (is_punctuator b && is_empty bs)
 
 -- the token that these bytes are as a whole
 abbrev pub token_form : List ℕ → Option TokenKind

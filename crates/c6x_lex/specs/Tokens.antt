@@ -45,35 +45,35 @@ behind piece p =
     else (record { at = p.at + piece.len; line = p.line; start = p.start })
 
 -- a byte that starts no piece; the column counts from 1
-pub record Spot : Type 0 where
+pub record Position : Type 0 where
   pub line : ℕ
   pub column : ℕ
 
-abbrev pub spot_of : Place → Spot
+abbrev pub spot_of : Place → Position
 spot_of p = record { line = p.line; column = p.at - p.start + 1 }
 
-abbrev pub prepend : List Token → Result (List Token) Spot → Result (List Token) Spot
+abbrev pub prepend : List Token → Result (List Token) Position → Result (List Token) Position
 prepend ts (Ok us) = Ok (ts ++ us)
 prepend ts (Err spot) = Err spot
 
 abbrev pub token_of : Piece → Place → List Token
 token_of piece p = elim piece.kind [ None ↦ [] | Some k ↦ record { kind = k; at = p.at; len = piece.len; line = p.line } ∷ [] ]
 
-abbrev pub cut : Option Piece → Place → (ℕ → Place → Result (List Token) Spot) → Result (List Token) Spot
+abbrev pub cut : Option Piece → Place → (ℕ → Place → Result (List Token) Position) → Result (List Token) Position
 cut None p rest = Err (spot_of p)
 cut (Some piece) p rest = prepend (token_of piece p) (rest (piece.len - 1) (behind piece p))
 
 -- the tokens from a place on, of which the next `skip` bytes still belong to the piece before
-abbrev pub tokens_from : ℕ → Place → List ℕ → Result (List Token) Spot
+abbrev pub tokens_from : ℕ → Place → List ℕ → Result (List Token) Position
 tokens_from skip p [] = Ok []
 tokens_from (suc skip) p (b ∷ bs) = tokens_from skip p bs
 tokens_from zero p (b ∷ bs) = cut (piece_after b bs) p (λ skip next. tokens_from skip next bs)
 
-unfoldable pub tokens_of : List ℕ → Result (List Token) Spot
+unfoldable pub tokens_of : List ℕ → Result (List Token) Position
 tokens_of text = tokens_from 0 (record { at = 0; line = 1; start = 0 }) text
 
 -- the answer of `lex`: the tokens, or the first byte that starts none
-abbrev pub Lexes : Result (Vec Token Global) LexError → Result (List Token) Spot → Type 0
+abbrev pub Lexes : Result (Vec Token Global) LexError → Result (List Token) Position → Type 0
 Lexes (Ok tokens) told = told ≡ Ok tokens.items
 Lexes (Err (BadByte line column)) told = told ≡ Err (record { line = line; column = column })
 Lexes (Err NoMemory) told = Unit {0}

@@ -1,6 +1,6 @@
 ghost use Rattle.std.specs.Prelude.{◌≡◌, ◌<◌, ◌≤◌, length};
 ghost use Rattle.std.specs.List.{prefix_len};
-ghost use Rattle.c6x_lex.specs.Forms.{is_digit, is_sign, is_blank, starts_word, comment_len};
+ghost use Rattle.c6x_lex.specs.Forms.{is_digit, is_punctuator, is_blank, starts_word, comment_len};
 ghost use Rattle.c6x_lex.specs.Classes.{is_of};
 
 /// The bytes that go on in a token or comment.
@@ -31,8 +31,8 @@ pub fn is_blank(b: u8) -> bool
     b == b' ' || b == b'\t'
 }
 
-pub fn is_sign(b: u8) -> bool
-    ensures { result ≡ is_sign b }
+pub fn is_punctuator(b: u8) -> bool
+    ensures { result ≡ is_punctuator b }
 {
     matches!(
         b,

@@ -8,7 +8,7 @@ pub enum TokenKind {
     /// A text with its two quotes.
     Text,
     /// One of `:,[]()*+-!%`, or `||`.
-    Sign,
+    Punctuator,
     /// A newline, with the carriage return just before it if there is one.
     NewLine,
 }

@@ -1,9 +1,9 @@
 ghost use Rattle.std.specs.Prelude.{◌≡◌, ◌≢◌, ◌+◌, ◌<◌, ◌≤◌, true, false, length, ◌∷◌, IfSome};
-ghost use Rattle.c6x_lex.specs.Forms.{starts_word, is_digit, is_sign};
+ghost use Rattle.c6x_lex.specs.Forms.{starts_word, is_digit, is_punctuator};
 ghost use Rattle.c6x_lex.specs.Classes.{begins_with, hex_len};
 ghost use Rattle.c6x_lex.specs.Tokens.{longest_token, piece_after};
 
-use crate::bytes::{Class, comment_len, front_len, is_blank, is_digit, is_sign, starts_word};
+use crate::bytes::{Class, comment_len, front_len, is_blank, is_digit, is_punctuator, starts_word};
 use crate::cut::Piece;
 use crate::kind::TokenKind;
 
@@ -75,7 +75,7 @@ fn text(first: u8, rest: &[u8]) -> Option<Piece>
 }
 
 #[tactic(auto, using(crate::proofs::Longest::longest_newline, crate::proofs::Longest::longest_return, crate::proofs::Longest::no_return, crate::proofs::Longest::longest_bar, crate::proofs::Longest::no_bar, crate::proofs::Longest::longest_sign, crate::proofs::Longest::no_sign))]
-fn sign(first: u8, rest: &[u8]) -> Option<Piece>
+fn punctuator(first: u8, rest: &[u8]) -> Option<Piece>
     requires other { starts_word first ≡ false }
     requires no_digit { is_digit first ≡ false }
     requires no_quote { first ≢ 34 }
@@ -93,12 +93,12 @@ fn sign(first: u8, rest: &[u8]) -> Option<Piece>
             len: 2,
         }),
         b'|' if begins_with(b'|', rest) => Some(Piece {
-            kind: Some(TokenKind::Sign),
+            kind: Some(TokenKind::Punctuator),
             len: 2,
         }),
         b'\r' | b'|' => None,
-        _ if is_sign(first) => Some(Piece {
-            kind: Some(TokenKind::Sign),
+        _ if is_punctuator(first) => Some(Piece {
+            kind: Some(TokenKind::Punctuator),
             len: 1,
         }),
         _ => None,
@@ -122,7 +122,7 @@ fn token(first: u8, rest: &[u8]) -> Option<Piece>
     } else if first == b'"' {
         text(first, rest)
     } else {
-        sign(first, rest)
+        punctuator(first, rest)
     }
 }
 

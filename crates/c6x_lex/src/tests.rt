@@ -15,14 +15,14 @@ fn a_text_of_three_lines(rt: HostRuntime) -> Result<(), Fail> {
     let tokens = lex(rt.alloc(), b"a: .sect \"x\" ; c\r\n||0x1fg +")?;
     let expected = [
         token(TokenKind::Word, 0, 1, 1),
-        token(TokenKind::Sign, 1, 1, 1),
+        token(TokenKind::Punctuator, 1, 1, 1),
         token(TokenKind::Word, 3, 5, 1),
         token(TokenKind::Text, 9, 3, 1),
         token(TokenKind::NewLine, 16, 2, 1),
-        token(TokenKind::Sign, 18, 2, 2),
+        token(TokenKind::Punctuator, 18, 2, 2),
         token(TokenKind::Number, 20, 4, 2),
         token(TokenKind::Word, 24, 1, 2),
-        token(TokenKind::Sign, 26, 1, 2),
+        token(TokenKind::Punctuator, 26, 1, 2),
     ];
     assert!(rt; tokens.as_slice() == expected.as_slice());
     Ok(())

@@ -9,5 +9,5 @@ invariant-loop-token l = record {
   ran : run_from l.text l.end l.line l.lexemes.items (state_of l.object) (drop l.token-index l.tokens) ≡ run_from l.text l.end 1 l.initial.lexemes.items (state_of l.initial.object) l.tokens;
   lines : l.line ≤ 65537;
   sound : IsSound l.text l.object;
-  outline : AreBlocks l.text l.object.parts.items l.outline;
+  outline : AreBlocks l.text l.object.sections.items l.outline;
 }

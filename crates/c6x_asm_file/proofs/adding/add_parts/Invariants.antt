@@ -1,7 +1,7 @@
 use Rattle.std.proofs.Common.{◌≡◌, drop, map}
-use Rattle.c6x_asm_form.specs.Filing.{named_part}
+use Rattle.c6x_asm_form.specs.Filing.{named_section}
 use Rattle.c6x_asm_file.specs.Adding.{added}
-use Rattle.c6x_asm_file.proofs.adding.add_parts.Given as goal
+use Rattle.c6x_asm_file.proofs.adding.add_named_sections.Given as goal
 
-abbrev pub invariant-loop-part : goal.invariant-loop-part
-invariant-loop-part l = added (map (named_part l.text) (drop l.part-index l.parts)) l.table ≡ added (map (named_part l.text) l.parts) l.initial.table
+abbrev pub invariant-loop-section : goal.invariant-loop-section
+invariant-loop-section l = added (map (named_section l.text) (drop l.section-index l.sections)) l.table ≡ added (map (named_section l.text) l.sections) l.initial.table

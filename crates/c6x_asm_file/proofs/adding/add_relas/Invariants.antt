@@ -3,8 +3,8 @@ use Rattle.c6x_asm_form.specs.Filing.{named_relas}
 use Rattle.c6x_asm_file.specs.Adding.{added}
 use Rattle.c6x_asm_file.proofs.adding.add_relas.Given as goal
 
-abbrev pub invariant-loop-part : goal.invariant-loop-part
-invariant-loop-part l = record {
-  made : added (named_relas l.text l.numbers l.symtab l.number (drop l.part-index l.parts)) l.table ≡ added (named_relas l.text l.numbers l.symtab 1 l.parts) l.initial.table;
-  number : l.number ≡ l.part-index + 1;
+abbrev pub invariant-loop-section : goal.invariant-loop-section
+invariant-loop-section l = record {
+  made : added (named_relas l.text l.numbers l.symtab l.number (drop l.section-index l.sections)) l.table ≡ added (named_relas l.text l.numbers l.symtab 1 l.sections) l.initial.table;
+  number : l.number ≡ l.section-index + 1;
 }

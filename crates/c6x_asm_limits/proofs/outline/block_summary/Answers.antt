@@ -6,4 +6,4 @@ use Rattle.c6x_asm_limits.proofs.outline.block_summary.Goals as goal
 pub returns : goal.returns
 returns c =
     c.summed.ensures
-    ∙ ap (summed c.args.text.now empty_summary) (front_of (64 * c.args.block) 64 c.min.result c.args.parts.now c.min.ensures)
+    ∙ ap (summed c.args.text.now empty_summary) (front_of (64 * c.args.block) 64 c.min.result c.args.sections.now c.min.ensures)

@@ -2,5 +2,5 @@ use Rattle.std.proofs.Common.{◌≡◌, take}
 use Rattle.c6x_asm_limits.specs.Sums.{empty_summary, summed}
 use Rattle.c6x_asm_limits.proofs.summing.summed.Given as goal
 
-abbrev pub invariant-loop-part : goal.invariant-loop-part
-invariant-loop-part l = l.sum ≡ summed l.text empty_summary (take l.part-index l.parts)
+abbrev pub invariant-loop-section : goal.invariant-loop-section
+invariant-loop-section l = l.sum ≡ summed l.text empty_summary (take l.section-index l.sections)

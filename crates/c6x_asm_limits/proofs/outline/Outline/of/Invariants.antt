@@ -3,4 +3,4 @@ use Rattle.c6x_asm_limits.specs.Sums.{AreBlocks}
 use Rattle.c6x_asm_limits.proofs.outline.Outline.of.Given as goal
 
 abbrev pub invariant-loop-place : goal.invariant-loop-place
-invariant-loop-place l = AreBlocks l.text (take l.place l.parts) l.outline
+invariant-loop-place l = AreBlocks l.text (take l.place l.sections) l.outline

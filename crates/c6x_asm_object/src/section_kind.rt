@@ -1,6 +1,6 @@
 /// What a section holds, by its name.
 #[derive(Debug, Clone, Copy, PartialEq, Eq)]
-pub enum PartKind {
+pub enum SectionKind {
     /// Code.
     Text,
     /// Data that is not written.

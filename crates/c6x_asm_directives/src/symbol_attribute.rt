@@ -1,6 +1,6 @@
 /// What a directive says of a symbol.
 #[derive(Debug, Clone, Copy, PartialEq, Eq)]
-pub enum Mark {
+pub enum SymbolAttribute {
     Global,
     Weak,
     Hidden,

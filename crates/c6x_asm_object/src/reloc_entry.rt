@@ -2,7 +2,7 @@ use c6x_reloc::RelocKind;
 
 /// A relocation of a section.
 #[derive(Debug, Clone, Copy, PartialEq, Eq)]
-pub struct Entry {
+pub struct RelocEntry {
     pub offset: u32,
     pub kind: RelocKind,
     /// The symbol's place among the names of the text; None for the null symbol.

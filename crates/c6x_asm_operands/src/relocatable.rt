@@ -10,7 +10,7 @@ pub struct Field {
 
 /// What an instruction does, and the relocation of its field.
 #[derive(Debug, Clone, Copy, PartialEq, Eq)]
-pub struct Made {
+pub struct RelocatableOp {
     pub op: Op,
     pub relocation: Option<Relocation>,
 }

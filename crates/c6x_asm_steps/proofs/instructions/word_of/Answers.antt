@@ -1,7 +1,7 @@
 use Rattle.std.proofs.Common.{false}
-use Rattle.c6x_asm_steps.specs.Instructing.{word_of}
+use Rattle.c6x_asm_steps.specs.Instructions.{word_of}
 use Rattle.c6x_asm_steps.proofs.Encoding.{encoded_valid}
-use Rattle.c6x_asm_steps.proofs.instructing.word_of.Goals as goal
+use Rattle.c6x_asm_steps.proofs.instructions.word_of.Goals as goal
 
 pub returns-then-is_valid : goal.returns-then-is_valid
 unfolding word_of

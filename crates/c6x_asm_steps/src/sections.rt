@@ -1,25 +1,25 @@
 ghost use Rattle.std.specs.Prelude.{◌≡◌, ◌++◌, ◌∷◌, [], ◌<◌, None, IfSome, OnOk, vec_len};
 ghost use Rattle.c6x_asm_lines.specs.Bytes.{bytes_at};
 ghost use Rattle.c6x_asm_object.specs.Kinds.{kind_named};
-ghost use Rattle.c6x_asm_object.specs.Parts.{empty_part};
-ghost use Rattle.c6x_asm_steps.specs.States.{State, state_of, IsSound, part_at, entered};
+ghost use Rattle.c6x_asm_object.specs.Sections.{empty_section};
+ghost use Rattle.c6x_asm_steps.specs.States.{State, state_of, IsSound, section_index, entered};
 
 use c6x_asm_lines::bytes_at;
-use c6x_asm_object::{Object, empty_part, kind_named};
+use c6x_asm_object::{Object, empty_section, kind_named};
 use std::alloc::{AllocError, Global};
 
-#[tactic(auto, using(crate::proofs::Sound::name_of_part))]
-fn part_at(text: &[u8], object: &Object, at: u32, len: u32) -> Option<usize>
+#[tactic(auto, using(crate::proofs::Sound::name_of_section))]
+fn section_index(text: &[u8], object: &Object, at: u32, len: u32) -> Option<usize>
     requires sound { IsSound text.now object.now }
-    ensures is { result ≡ part_at text.now object.now.parts.items (bytes_at text.now at len) }
-    ensures there { IfSome result (λ i. i < vec_len object.now.parts) }
+    ensures is { result ≡ section_index text.now object.now.sections.items (bytes_at text.now at len) }
+    ensures there { IfSome result (λ i. i < vec_len object.now.sections) }
 {
-    object.part_names.find(bytes_at(text, at, len))
+    object.section_names.find(bytes_at(text, at, len))
 }
 
 // Adds a section whose name is not there.
-#[tactic(auto, unfolding(c6x_asm_object::specs::Parts::empty_part), using(crate::proofs::Sound::name_of_part, crate::proofs::Sound::part_names_push))]
-fn add_part<'a>(
+#[tactic(auto, unfolding(c6x_asm_object::specs::Sections::empty_section), using(crate::proofs::Sound::name_of_section, crate::proofs::Sound::section_names_push))]
+fn add_section<'a>(
     alloc: Global,
     text: &'a [u8],
     object: &mut Object<'a>,
@@ -27,17 +27,17 @@ fn add_part<'a>(
     len: u32,
 ) -> Result<(), AllocError>
     requires sound { IsSound text.now object.old }
-    requires absent { part_at text.now object.old.parts.items (bytes_at text.now at len) ≡ None }
-    ensures parts { OnOk result (object.new.parts.items ≡ object.old.parts.items ++ empty_part at len (kind_named (bytes_at text.now at len)) ∷ []) }
+    requires absent { section_index text.now object.old.sections.items (bytes_at text.now at len) ≡ None }
+    ensures sections { OnOk result (object.new.sections.items ≡ object.old.sections.items ++ empty_section at len (kind_named (bytes_at text.now at len)) ∷ []) }
     ensures symbols { object.new.symbols ≡ object.old.symbols }
     ensures sound { OnOk result (IsSound text.now object.new) }
 {
     let name = bytes_at(text, at, len);
     object
-        .parts
-        .push(empty_part(alloc, at, len, kind_named(name)))
+        .sections
+        .push(empty_section(alloc, at, len, kind_named(name)))
         .map_err(AllocError::from)?;
-    object.part_names.add(name)
+    object.section_names.add(name)
 }
 
 /// Lines go on in the section with this name, which is added if it is new.
@@ -53,14 +53,14 @@ pub fn enter<'a>(
     ensures is { OnOk result (state_of object.new ≡ entered text.now at len (state_of object.old)) }
     ensures sound { OnOk result (IsSound text.now object.new) }
 {
-    match part_at(text, object, at, len) {
+    match section_index(text, object, at, len) {
         Some(i) => {
             object.current = Some(i);
             Ok(())
         }
         None => {
-            let i = object.parts.len();
-            add_part(alloc, text, object, at, len)?;
+            let i = object.sections.len();
+            add_section(alloc, text, object, at, len)?;
             object.current = Some(i);
             Ok(())
         }

@@ -5,11 +5,11 @@ use std::marker::Model;
 
 /// What is left of a line.
 #[derive(Debug, Drop)]
-pub struct Rest<'t> {
+pub struct Remaining<'t> {
     lexemes: &'t [Lexeme],
 }
 
-impl<'t> Model for Rest<'t> {
+impl<'t> Model for Remaining<'t> {
     ghost use Rattle.std.specs.Prelude.{List};
     ghost use Rattle.c6x_asm_lines.specs.declared.lexeme.Lexeme.{Lexeme};
 
@@ -18,11 +18,11 @@ impl<'t> Model for Rest<'t> {
     ghost view = { λ r. r.lexemes.now };
 }
 
-impl<'t> Rest<'t> {
-    pub fn of(lexemes: &'t [Lexeme]) -> Rest<'t>
+impl<'t> Remaining<'t> {
+    pub fn of(lexemes: &'t [Lexeme]) -> Remaining<'t>
         ensures { result ≡ lexemes.now }
     {
-        Rest { lexemes }
+        Remaining { lexemes }
     }
 
     pub fn lexemes(&self) -> &'t [Lexeme]

@@ -1,6 +1,6 @@
 /// An instruction of a section.
 #[derive(Debug, Clone, Copy, PartialEq, Eq)]
-pub struct Slot {
+pub struct InstrWord {
     /// The line that it stands on.
     pub line: u32,
     /// `||` stands before it.

@@ -1,13 +1,13 @@
 ghost use Rattle.std.specs.Prelude.{◌≡◌, ◌<◌, None, IfOk, IfSome, OnOk, vec_len, length};
 ghost use Rattle.c6x_asm_steps.specs.States.{State, state_of, IsSound, Becomes};
-ghost use Rattle.c6x_asm_steps.specs.Stepping.{is_numbers, zero_fault, numbers_fault, with_keyword, with_statement, stated, after_label, fault_of_label, stepped};
+ghost use Rattle.c6x_asm_steps.specs.Lines.{is_numbers, zero_fault, numbers_fault, with_keyword, with_statement, stated, after_label, fault_of_label, stepped};
 
-use crate::directing::apply;
-use crate::instructing::{instruct, is_zero};
-use crate::labelling::{label_fault, set_label};
+use crate::directives::apply;
+use crate::instructions::{instruct, is_zero};
+use crate::labels::{label_fault, set_label};
 use c6x_asm_directives::{Keyword, directive_of, keyword_of, kinds_fault};
 use c6x_asm_lines::{AsmRule, bytes_at, Line, lower, Operand, Statement, Word, WordClass};
-use c6x_asm_object::{Object, Part};
+use c6x_asm_object::{Object, AsmSection};
 use std::alloc::{AllocError, Global};
 
 fn is_numbers(keyword: Keyword) -> bool
@@ -17,14 +17,14 @@ fn is_numbers(keyword: Keyword) -> bool
 }
 
 #[tactic(auto, using(std::proofs::lemmas::List::get_or_default))]
-fn zero_fault(parts: &[Part], now: Option<usize>) -> Option<AsmRule>
-    requires { IfSome now (λ i. i < length parts.now) }
-    ensures { result ≡ zero_fault parts.now now }
+fn zero_fault(sections: &[AsmSection], now: Option<usize>) -> Option<AsmRule>
+    requires { IfSome now (λ i. i < length sections.now) }
+    ensures { result ≡ zero_fault sections.now now }
 {
     match now {
         None => None,
         Some(i) => {
-            if is_zero(parts[i].kind) {
+            if is_zero(sections[i].kind) {
                 Some(AsmRule::Operand)
             } else {
                 None
@@ -33,12 +33,12 @@ fn zero_fault(parts: &[Part], now: Option<usize>) -> Option<AsmRule>
     }
 }
 
-fn numbers_fault(keyword: Keyword, parts: &[Part], now: Option<usize>) -> Option<AsmRule>
-    requires { IfSome now (λ i. i < length parts.now) }
-    ensures { result ≡ numbers_fault keyword parts.now now }
+fn numbers_fault(keyword: Keyword, sections: &[AsmSection], now: Option<usize>) -> Option<AsmRule>
+    requires { IfSome now (λ i. i < length sections.now) }
+    ensures { result ≡ numbers_fault keyword sections.now now }
 {
     if is_numbers(keyword) {
-        zero_fault(parts, now)
+        zero_fault(sections, now)
     } else {
         None
     }
@@ -58,7 +58,7 @@ fn direct<'a>(
     let Some(keyword) = keyword else {
         return Ok(Err(AsmRule::UnknownWord));
     };
-    let fault = numbers_fault(keyword, &object.parts, object.current);
+    let fault = numbers_fault(keyword, &object.sections, object.current);
     match (fault, directive_of(alloc, text, keyword, operands)?) {
         (None, Ok(directive)) => apply(alloc, text, object, &directive),
         (None, Err(rule)) => Ok(Err(rule)),
@@ -92,7 +92,7 @@ fn state<'a>(
     }
 }
 
-#[tactic(auto, unfolding(crate::specs::Stepping::stated))]
+#[tactic(auto, unfolding(crate::specs::Lines::stated))]
 fn state_any<'a>(
     alloc: Global,
     text: &'a [u8],
@@ -139,7 +139,7 @@ fn label<'a>(
 
 /// Adds what a line says to the sections and symbols so far, or answers the lowest rule that it
 /// breaks; after that the object is of no use but for the instructions of earlier lines.
-#[tactic(auto, unfolding(crate::specs::Stepping::stepped))]
+#[tactic(auto, unfolding(crate::specs::Lines::stepped))]
 pub fn step<'a>(
     alloc: Global,
     text: &'a [u8],

@@ -1,9 +1,9 @@
 ghost use Rattle.std.specs.Prelude.{◌≡◌, ◌+◌, ◌<◌, IfSome, OnOk, length, vec_len};
-ghost use Rattle.c6x_asm_steps.specs.States.{State, state_of, IsSound, section_fault, label_spot, label_fault, labelled};
+ghost use Rattle.c6x_asm_steps.specs.States.{State, state_of, IsSound, section_fault, label_definition, label_fault, labelled};
 
-use crate::marking::{place, placed_fault};
+use crate::symbols::{place, placed_fault};
 use c6x_asm_lines::{AsmRule, lowest, Word};
-use c6x_asm_object::{Object, Part, Spot};
+use c6x_asm_object::{Object, AsmSection, Definition};
 use std::alloc::AllocError;
 
 fn section_fault(now: Option<usize>) -> Option<AsmRule>
@@ -16,19 +16,19 @@ fn section_fault(now: Option<usize>) -> Option<AsmRule>
 }
 
 #[tactic(auto, using(std::proofs::lemmas::List::get_or_default))]
-fn label_spot(parts: &[Part], now: Option<usize>) -> Spot
-    requires { IfSome now (λ i. i < length parts.now) }
-    ensures { result ≡ label_spot parts.now now }
+fn label_definition(sections: &[AsmSection], now: Option<usize>) -> Definition
+    requires { IfSome now (λ i. i < length sections.now) }
+    ensures { result ≡ label_definition sections.now now }
 {
     match now {
-        None => Spot {
+        None => Definition {
             section: 0,
             value: 0,
             size: 0,
         },
-        Some(i) => Spot {
+        Some(i) => Definition {
             section: i + 1,
-            value: parts[i].size,
+            value: sections[i].size,
             size: 0,
         },
     }
@@ -53,6 +53,6 @@ pub fn set_label<'a>(text: &'a [u8], object: &mut Object<'a>, word: Word) -> Res
     ensures is { OnOk result (state_of object.new ≡ labelled text.now (state_of object.old) word) }
     ensures sound { OnOk result (IsSound text.now object.new) }
 {
-    let spot = label_spot(&object.parts, object.current);
-    place(text, &mut object.symbols, word, spot)
+    let definition = label_definition(&object.sections, object.current);
+    place(text, &mut object.symbols, word, definition)
 }

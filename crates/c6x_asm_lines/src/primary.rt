@@ -4,7 +4,7 @@ use crate::word::Word;
 
 /// An operand without a named kind.
 #[derive(Debug, Clone, Copy, PartialEq, Eq)]
-pub enum Plain {
+pub enum Primary {
     Register(Register),
     Number(Number),
     /// A symbol; the addend is None where no sign follows it.

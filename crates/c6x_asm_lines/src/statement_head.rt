@@ -3,7 +3,7 @@ use c6x_instr::Cond;
 
 /// What stands before the operands of an instruction or a directive.
 #[derive(Debug, Clone, Copy, PartialEq, Eq)]
-pub struct Head {
+pub struct StatementHead {
     /// `||` stands before it.
     pub chained: bool,
     pub condition: Cond,

@@ -1,26 +1,26 @@
 -- What a directive adds.
 use Rattle.std.specs.Prelude.{ℕ, ◌+◌, nat_le, Bool, if◌then◌else◌, List, [], ◌∷◌, Option, Some, None, Result, Ok, Err}
-use Rattle.c6x_asm_operands.specs.declared.made.Field.{Field}
+use Rattle.c6x_asm_operands.specs.declared.relocatable.Field.{Field}
 use Rattle.c6x_asm_lines.specs.declared.rule.AsmRule.{AsmRule}
 use Rattle.c6x_asm_lines.specs.declared.rule.AsmRule.TheVariants.{NoSection, Large}
 use Rattle.c6x_asm_lines.specs.Rules.{◌>>=◌}
 use Rattle.c6x_asm_directives.specs.declared.directive.Directive.{Directive}
-use Rattle.c6x_asm_directives.specs.declared.directive.Directive.TheVariants.{Section, Numbers, Space, Align, Mark as Marks, Common, Set}
+use Rattle.c6x_asm_directives.specs.declared.directive.Directive.TheVariants.{Section, Numbers, Space, Align, Attribute as SetAttribute, Common, Set}
 use Rattle.c6x_asm_lines.specs.declared.word.Word.{Word}
-use Rattle.c6x_asm_object.specs.declared.spot.Spot.{Spot}
-use Rattle.c6x_asm_object.specs.Parts.{part_of, changed, padding, with_zeros, with_align, with_number}
-use Rattle.c6x_asm_steps.specs.States.{State, entered, relocated, name_changed, placed_at, marked_by, placed_fault}
+use Rattle.c6x_asm_object.specs.declared.definition.Definition.{Definition}
+use Rattle.c6x_asm_object.specs.Sections.{section_at, changed, padding, with_zeros, with_align, with_number}
+use Rattle.c6x_asm_steps.specs.States.{State, entered, relocated, name_changed, placed_at, with_attribute, placed_fault}
 
 -- whether a section may grow by so many bytes
 abbrev pub has_room : State → ℕ → ℕ → Bool
-has_room s i count = nat_le ((part_of s.parts i).size + count) 1048576
+has_room s i count = nat_le ((section_at s.sections i).size + count) 1048576
 
 -- one more number, of so many bytes, in a section
 unfoldable pub with_field : List ℕ → ℕ → ℕ → State → Field → Result State AsmRule
 with_field text i size s field =
     if has_room s i size
-    then (let entry = relocated text s.symbols (part_of s.parts i).size field.relocation in
-    Ok (record s { symbols = entry.0; parts = changed s.parts i (with_number size field.bits entry.1) }))
+    then (let entry = relocated text s.symbols (section_at s.sections i).size field.relocation in
+    Ok (record s { symbols = entry.0; sections = changed s.sections i (with_number size field.bits entry.1) }))
     else Err Large
 
 abbrev pub with_fields : List ℕ → ℕ → ℕ → State → List Field → Result State AsmRule
@@ -32,16 +32,16 @@ in_section None next = Err NoSection
 in_section (Some i) next = next i
 
 abbrev pub with_space : ℕ → State → ℕ → Result State AsmRule
-with_space count s i = if has_room s i count then Ok (record s { parts = changed s.parts i (with_zeros count) }) else Err Large
+with_space count s i = if has_room s i count then Ok (record s { sections = changed s.sections i (with_zeros count) }) else Err Large
 
 abbrev pub with_alignment : ℕ → State → ℕ → Result State AsmRule
 with_alignment align s i =
-    if has_room s i (padding (part_of s.parts i).size align) then Ok (record s { parts = changed s.parts i (with_align align) }) else Err Large
+    if has_room s i (padding (section_at s.sections i).size align) then Ok (record s { sections = changed s.sections i (with_align align) }) else Err Large
 
 -- a place by `.common` or `.set`
-abbrev pub given_place : List ℕ → State → Word → Spot → Option AsmRule → Result State AsmRule
-given_place text s word spot None = Ok (record s { symbols = name_changed text s.symbols word (placed_at spot) })
-given_place text s word spot (Some r) = Err r
+abbrev pub given_place : List ℕ → State → Word → Definition → Option AsmRule → Result State AsmRule
+given_place text s word definition None = Ok (record s { symbols = name_changed text s.symbols word (placed_at definition) })
+given_place text s word definition (Some r) = Err r
 
 -- the section number of a common symbol (gABI chapter 4; SPRAB89 for the near one), and that of an absolute one
 abbrev pub common_section : Bool → ℕ
@@ -52,6 +52,6 @@ applied text s (Section at len) = Ok (entered text at len s)
 applied text s (Numbers size fields) = in_section s.now (λ i. with_fields text i size s fields)
 applied text s (Space count) = in_section s.now (with_space count s)
 applied text s (Align align) = in_section s.now (with_alignment align s)
-applied text s (Marks mark word) = Ok (record s { symbols = name_changed text s.symbols word (marked_by mark) })
+applied text s (SetAttribute attribute word) = Ok (record s { symbols = name_changed text s.symbols word (with_attribute attribute) })
 applied text s (Common word size align near) = given_place text s word (record { section = common_section near; value = align; size = size }) (placed_fault text s.symbols word)
 applied text s (Set word value) = given_place text s word (record { section = 0xFFF1; value = value; size = 0 }) (placed_fault text s.symbols word)

@@ -1,15 +1,15 @@
 ghost use Rattle.std.specs.Prelude.{◌≡◌, ◌+◌, ◌<◌, ◌≤◌, IfOk, IfSome, vec_len, length};
 ghost use Rattle.c6x_instr.specs.Spelling.{IsValid};
-ghost use Rattle.c6x_asm_object.specs.Parts.{part_of, is_zero};
+ghost use Rattle.c6x_asm_object.specs.Sections.{section_at, is_zero};
 ghost use Rattle.c6x_asm_steps.specs.States.{State, state_of, IsSound, Becomes};
-ghost use Rattle.c6x_asm_steps.specs.Instructing.{ends_at, is_behind, chain_fault, place_fault, fails, word_of, with_word, with_made, instruction_fault, instructed};
+ghost use Rattle.c6x_asm_steps.specs.Instructions.{ends_at, is_behind, chain_fault, place_fault, fails, word_of, with_word, with_made, instruction_fault, instructed};
 
-use crate::directing::has_room;
-use crate::relocating::relocate;
-use c6x_asm_lines::{AsmRule, Head, lower, lowest, Operand};
+use crate::directives::has_room;
+use crate::relocations::relocate;
+use c6x_asm_lines::{AsmRule, StatementHead, lower, lowest, Operand};
 use c6x_asm_instr::instruction_of;
-use c6x_asm_object::{Object, Part, PartKind, Slot, add_instruction};
-use c6x_asm_operands::Made;
+use c6x_asm_object::{Object, AsmSection, SectionKind, InstrWord, add_instruction};
+use c6x_asm_operands::RelocatableOp;
 use c6x_encoding::{encode, is_valid};
 use c6x_instr::{Cond, Instr, Op};
 use std::alloc::AllocError;
@@ -24,13 +24,13 @@ fn ends_at(last: Option<u32>, size: u32) -> bool
 }
 
 #[tactic(auto, using(std::proofs::lemmas::List::get_or_default))]
-fn is_behind(parts: &[Part], now: Option<usize>) -> bool
-    requires { IfSome now (λ i. i < length parts.now) }
-    ensures { result ≡ is_behind parts.now now }
+fn is_behind(sections: &[AsmSection], now: Option<usize>) -> bool
+    requires { IfSome now (λ i. i < length sections.now) }
+    ensures { result ≡ is_behind sections.now now }
 {
     match now {
         None => false,
-        Some(i) => ends_at(parts[i].last, parts[i].size),
+        Some(i) => ends_at(sections[i].last, sections[i].size),
     }
 }
 
@@ -45,21 +45,21 @@ fn chain_fault(chained: bool, behind: bool) -> Option<AsmRule>
 }
 
 /// Whether a section has no bytes in the file.
-pub fn is_zero(kind: PartKind) -> bool
+pub fn is_zero(kind: SectionKind) -> bool
     ensures { result ≡ is_zero kind }
 {
-    matches!(kind, PartKind::Zero)
+    matches!(kind, SectionKind::Zero)
 }
 
 #[tactic(auto, using(std::proofs::lemmas::List::get_or_default))]
-fn place_fault(parts: &[Part], now: Option<usize>) -> Option<AsmRule>
-    requires { IfSome now (λ i. i < length parts.now) }
-    ensures { result ≡ place_fault parts.now now }
+fn place_fault(sections: &[AsmSection], now: Option<usize>) -> Option<AsmRule>
+    requires { IfSome now (λ i. i < length sections.now) }
+    ensures { result ≡ place_fault sections.now now }
 {
     match now {
         None => Some(AsmRule::NoSection),
         Some(i) => {
-            if is_zero(parts[i].kind) || parts[i].size % 4 != 0 {
+            if is_zero(sections[i].kind) || sections[i].size % 4 != 0 {
                 Some(AsmRule::Operand)
             } else {
                 None
@@ -68,7 +68,7 @@ fn place_fault(parts: &[Part], now: Option<usize>) -> Option<AsmRule>
     }
 }
 
-#[tactic(auto, unfolding(crate::specs::Instructing::word_of), using(crate::proofs::Encoding::encoded_valid, crate::proofs::Encoding::encoded_invalid))]
+#[tactic(auto, unfolding(crate::specs::Instructions::word_of), using(crate::proofs::Encoding::encoded_valid, crate::proofs::Encoding::encoded_invalid))]
 fn word_of(condition: Cond, op: Op) -> Option<u32>
     ensures { result ≡ word_of condition op }
 {
@@ -89,29 +89,29 @@ fn add_word<'a>(
     text: &'a [u8],
     object: &mut Object<'a>,
     i: usize,
-    slot: Slot,
-    made: Made,
+    instruction: InstrWord,
+    made: RelocatableOp,
 ) -> Result<Result<(), AsmRule>, AllocError>
     requires sound { IsSound text.now object.old }
-    requires there { i < vec_len object.old.parts }
-    ensures is { IfOk result (λ done. Becomes done object.new (with_word text.now slot.line slot.chained made (Some slot.word) (state_of object.old) i)) }
+    requires there { i < vec_len object.old.sections }
+    ensures is { IfOk result (λ done. Becomes done object.new (with_word text.now instruction.line instruction.chained made (Some instruction.word) (state_of object.old) i)) }
     ensures sound { IfOk result (λ done. IsSound text.now object.new) }
 {
-    let offset = object.parts[i].size;
+    let offset = object.sections[i].size;
     if !has_room(offset, 4) {
         return Ok(Err(AsmRule::Large));
     }
     let entry = relocate(text, &mut object.symbols, offset, made.relocation)?;
-    add_instruction(&mut object.parts, i, slot, entry)?;
+    add_instruction(&mut object.sections, i, instruction, entry)?;
     Ok(Ok(()))
 }
 
 fn add_made<'a>(
     text: &'a [u8],
     line: u32,
-    head: Head,
+    head: StatementHead,
     object: &mut Object<'a>,
-    made: Made,
+    made: RelocatableOp,
 ) -> Result<Result<(), AsmRule>, AllocError>
     requires sound { IsSound text.now object.old }
     ensures is { IfOk result (λ done. Becomes done object.new (with_made text.now line head (state_of object.old) made)) }
@@ -125,7 +125,7 @@ fn add_made<'a>(
                 text,
                 object,
                 i,
-                Slot {
+                InstrWord {
                     line,
                     chained: head.chained,
                     word,
@@ -136,23 +136,23 @@ fn add_made<'a>(
     }
 }
 
-fn instruction_fault(object: &Object, head: Head) -> Option<AsmRule>
-    requires { IfSome object.now.current (λ i. i < vec_len object.now.parts) }
+fn instruction_fault(object: &Object, head: StatementHead) -> Option<AsmRule>
+    requires { IfSome object.now.current (λ i. i < vec_len object.now.sections) }
     ensures { result ≡ instruction_fault (state_of object.now) head }
 {
-    let behind = is_behind(&object.parts, object.current);
+    let behind = is_behind(&object.sections, object.current);
     lowest(
         chain_fault(head.chained, behind),
-        place_fault(&object.parts, object.current),
+        place_fault(&object.sections, object.current),
     )
 }
 
 /// Adds an instruction, or answers the lowest rule that it breaks.
-#[tactic(auto, unfolding(crate::specs::Instructing::instructed))]
+#[tactic(auto, unfolding(crate::specs::Instructions::instructed))]
 pub fn instruct<'a>(
     text: &'a [u8],
     line: u32,
-    head: Head,
+    head: StatementHead,
     operands: &[Operand],
     object: &mut Object<'a>,
 ) -> Result<Result<(), AsmRule>, AllocError>

@@ -1,38 +1,38 @@
 ghost use Rattle.std.specs.Prelude.{◌≡◌, ◌<◌, OnOk, vec_len};
 ghost use Rattle.c6x_asm_object.specs.Named.{AreNamed};
 ghost use Rattle.c6x_asm_object.specs.Symbols.{symbol_of};
-ghost use Rattle.c6x_asm_steps.specs.States.{placed_at, marked_by, symbol_changed, name_changed, spot_of, fault_of_spot, placed_fault};
+ghost use Rattle.c6x_asm_steps.specs.States.{placed_at, with_attribute, symbol_changed, name_changed, definition_of, fault_of_definition, placed_fault};
 
-use c6x_asm_directives::Mark;
+use c6x_asm_directives::SymbolAttribute;
 use c6x_asm_lines::{AsmRule, Word};
-use c6x_asm_object::{Spot, Symbol, Symbols, intern, symbol_at};
+use c6x_asm_object::{Definition, Symbol, Symbols, intern, symbol_at};
 use std::alloc::AllocError;
 
 #[tactic(auto, using(std::proofs::lemmas::List::get_or_default))]
-fn set_spot(list: &mut Vec<Symbol>, i: usize, spot: Spot)
+fn define(list: &mut Vec<Symbol>, i: usize, definition: Definition)
     requires { i < vec_len list.old }
-    ensures { list.new.items ≡ symbol_changed list.old.items i (placed_at spot) }
+    ensures { list.new.items ≡ symbol_changed list.old.items i (placed_at definition) }
 {
     let symbol = list[i];
     list[i] = Symbol {
-        spot: Some(spot),
+        definition: Some(definition),
         ..symbol
     };
 }
 
-fn marked(mark: Mark, symbol: Symbol) -> Symbol
-    ensures { result ≡ marked_by mark symbol }
+fn with_attribute(attribute: SymbolAttribute, symbol: Symbol) -> Symbol
+    ensures { result ≡ with_attribute attribute symbol }
 {
-    match mark {
-        Mark::Global => Symbol {
+    match attribute {
+        SymbolAttribute::Global => Symbol {
             global: true,
             ..symbol
         },
-        Mark::Weak => Symbol {
+        SymbolAttribute::Weak => Symbol {
             weak: true,
             ..symbol
         },
-        Mark::Hidden => Symbol {
+        SymbolAttribute::Hidden => Symbol {
             hidden: true,
             ..symbol
         },
@@ -40,12 +40,12 @@ fn marked(mark: Mark, symbol: Symbol) -> Symbol
 }
 
 #[tactic(auto, using(std::proofs::lemmas::List::get_or_default))]
-fn set_mark(list: &mut Vec<Symbol>, i: usize, mark: Mark)
+fn set_attribute_at(list: &mut Vec<Symbol>, i: usize, attribute: SymbolAttribute)
     requires { i < vec_len list.old }
-    ensures { list.new.items ≡ symbol_changed list.old.items i (marked_by mark) }
+    ensures { list.new.items ≡ symbol_changed list.old.items i (with_attribute attribute) }
 {
     let symbol = list[i];
-    list[i] = marked(mark, symbol);
+    list[i] = with_attribute(attribute, symbol);
 }
 
 /// Gives a name its place.
@@ -54,31 +54,31 @@ pub fn place<'a>(
     text: &'a [u8],
     symbols: &mut Symbols<'a>,
     word: Word,
-    spot: Spot,
+    definition: Definition,
 ) -> Result<(), AllocError>
     requires named { AreNamed text.now symbols.old }
-    ensures is { OnOk result (symbols.new.list.items ≡ name_changed text.now symbols.old.list.items word (placed_at spot)) }
+    ensures is { OnOk result (symbols.new.list.items ≡ name_changed text.now symbols.old.list.items word (placed_at definition)) }
     ensures named { OnOk result (AreNamed text.now symbols.new) }
 {
     let i = intern(text, symbols, word)?;
-    set_spot(&mut symbols.list, i, spot);
+    define(&mut symbols.list, i, definition);
     Ok(())
 }
 
-/// Marks a name.
+/// Sets an attribute of a name.
 #[tactic(auto, unfolding(crate::specs::States::name_changed), using(crate::proofs::Sound::names_marked, crate::proofs::Sound::total_marked))]
-pub fn mark<'a>(
+pub fn set_attribute<'a>(
     text: &'a [u8],
     symbols: &mut Symbols<'a>,
     word: Word,
-    mark: Mark,
+    attribute: SymbolAttribute,
 ) -> Result<(), AllocError>
     requires named { AreNamed text.now symbols.old }
-    ensures is { OnOk result (symbols.new.list.items ≡ name_changed text.now symbols.old.list.items word (marked_by mark)) }
+    ensures is { OnOk result (symbols.new.list.items ≡ name_changed text.now symbols.old.list.items word (with_attribute attribute)) }
     ensures named { OnOk result (AreNamed text.now symbols.new) }
 {
     let i = intern(text, symbols, word)?;
-    set_mark(&mut symbols.list, i, mark);
+    set_attribute_at(&mut symbols.list, i, attribute);
     Ok(())
 }
 
@@ -90,7 +90,7 @@ pub fn placed_fault(text: &[u8], symbols: &Symbols, word: Word) -> Option<AsmRul
 {
     match symbol_at(text, symbols, word) {
         None => None,
-        Some(i) => match symbols.list[i].spot {
+        Some(i) => match symbols.list[i].definition {
             None => None,
             Some(_) => Some(AsmRule::DuplicateLabel),
         },

@@ -1,7 +1,7 @@
 /// The signs before or behind the base of an address.
 #[derive(Debug, Clone, Copy, PartialEq, Eq)]
-pub enum Step {
-    Still,
+pub enum BaseModifier {
+    Unmodified,
     Plus,
     Minus,
     PlusPlus,

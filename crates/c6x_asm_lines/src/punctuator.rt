@@ -1,6 +1,6 @@
 /// A sign of the text.
 #[derive(Debug, Clone, Copy, PartialEq, Eq)]
-pub enum Sign {
+pub enum Punctuator {
     Colon,
     Comma,
     LeftBracket,
@@ -13,5 +13,5 @@ pub enum Sign {
     Bang,
     Percent,
     /// `||`
-    Bars,
+    ParallelBars,
 }

@@ -14,11 +14,11 @@ use Rattle.c6x_asm_directives.specs.declared.keyword.Keyword.TheVariants.{Word a
 use Rattle.c6x_asm_directives.specs.Directives.{directive_by}
 use Rattle.c6x_asm_directives.specs.Keywords.{keyword_of}
 use Rattle.c6x_asm_directives.specs.Kinds.{kinds_from}
-use Rattle.c6x_asm_object.specs.declared.part.Part.{Part}
-use Rattle.c6x_asm_object.specs.Parts.{is_zero, part_of}
+use Rattle.c6x_asm_object.specs.declared.asm_section.AsmSection.{AsmSection}
+use Rattle.c6x_asm_object.specs.Sections.{is_zero, section_at}
 use Rattle.c6x_asm_steps.specs.States.{State, label_fault, labelled}
-use Rattle.c6x_asm_steps.specs.Adding.{applied}
-use Rattle.c6x_asm_steps.specs.Instructing.{fails, instructed}
+use Rattle.c6x_asm_steps.specs.Directives.{applied}
+use Rattle.c6x_asm_steps.specs.Instructions.{fails, instructed}
 
 abbrev pub is_numbers : Keyword → Bool
 is_numbers WordKey = true
@@ -26,18 +26,18 @@ is_numbers Half = true
 is_numbers Byte = true
 is_numbers _ = false
 
-abbrev pub zero_fault : List Part → Option ℕ → Option AsmRule
-zero_fault parts None = None
-zero_fault parts (Some i) = if is_zero (part_of parts i).kind then Some BadOperand else None
+abbrev pub zero_fault : List AsmSection → Option ℕ → Option AsmRule
+zero_fault sections None = None
+zero_fault sections (Some i) = if is_zero (section_at sections i).kind then Some BadOperand else None
 
 -- a section of zeros has no numbers
-abbrev pub numbers_fault : Keyword → List Part → Option ℕ → Option AsmRule
-numbers_fault keyword parts now = if is_numbers keyword then zero_fault parts now else None
+abbrev pub numbers_fault : Keyword → List AsmSection → Option ℕ → Option AsmRule
+numbers_fault keyword sections now = if is_numbers keyword then zero_fault sections now else None
 
 abbrev pub with_keyword : List ℕ → Option Keyword → List Operand → State → Result State AsmRule
 with_keyword text None operands s = Err UnknownWord
 with_keyword text (Some keyword) operands s =
-    fails (numbers_fault keyword s.parts s.now) (directive_by text keyword operands) >>= λ directive. applied text s directive
+    fails (numbers_fault keyword s.sections s.now) (directive_by text keyword operands) >>= λ directive. applied text s directive
 
 abbrev pub with_statement : List ℕ → ℕ → Statement → State → Result State AsmRule
 with_statement text line statement s =

@@ -2,7 +2,7 @@ ghost use Rattle.std.specs.Prelude.{◌≡◌, IfOk, OnOk};
 ghost use Rattle.c6x_asm_object.specs.Named.{AreNamed};
 ghost use Rattle.c6x_asm_steps.specs.States.{named_entry, relocated};
 
-use c6x_asm_object::{Entry, Symbols, intern};
+use c6x_asm_object::{RelocEntry, Symbols, intern};
 use c6x_asm_operands::Relocation;
 use std::alloc::AllocError;
 
@@ -13,7 +13,7 @@ pub fn relocate<'a>(
     symbols: &mut Symbols<'a>,
     offset: u32,
     relocation: Option<Relocation>,
-) -> Result<Option<Entry>, AllocError>
+) -> Result<Option<RelocEntry>, AllocError>
     requires named { AreNamed text.now symbols.old }
     ensures is { IfOk result (λ entry. relocated text.now symbols.old.list.items offset relocation ≡ (symbols.new.list.items, entry)) }
     ensures named { OnOk result (AreNamed text.now symbols.new) }
@@ -21,7 +21,7 @@ pub fn relocate<'a>(
     match relocation {
         None => Ok(None),
         Some(r) => match r.symbol {
-            None => Ok(Some(Entry {
+            None => Ok(Some(RelocEntry {
                 offset,
                 kind: r.kind,
                 symbol: None,
@@ -29,7 +29,7 @@ pub fn relocate<'a>(
             })),
             Some(word) => {
                 let i = intern(text, symbols, word)?;
-                Ok(Some(Entry {
+                Ok(Some(RelocEntry {
                     offset,
                     kind: r.kind,
                     symbol: Some(i),

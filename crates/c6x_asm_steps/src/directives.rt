@@ -1,15 +1,15 @@
 ghost use Rattle.std.specs.Prelude.{◌≡◌, ℕ, ◌+◌, ◌<◌, ◌≤◌, nat_le, List, IfOk, vec_len, length};
-ghost use Rattle.c6x_asm_object.specs.Parts.{part_of, padding};
+ghost use Rattle.c6x_asm_object.specs.Sections.{section_at, padding};
 ghost use Rattle.c6x_asm_steps.specs.States.{State, state_of, IsSound, Becomes, placed_fault};
-ghost use Rattle.c6x_asm_steps.specs.Adding.{with_field, with_fields, with_space, with_alignment, given_place, common_section, applied};
+ghost use Rattle.c6x_asm_steps.specs.Directives.{with_field, with_fields, with_space, with_alignment, given_place, common_section, applied};
 ghost use Rattle.c6x_asm_directives.specs.Bounds.{FitsDirective};
 
-use crate::entering::enter;
-use crate::marking::{mark, place, placed_fault};
-use crate::relocating::relocate;
+use crate::sections::enter;
+use crate::symbols::{place, placed_fault, set_attribute};
+use crate::relocations::relocate;
 use c6x_asm_directives::Directive;
 use c6x_asm_lines::{AsmRule, Word};
-use c6x_asm_object::{Object, Spot, add_align, add_number, add_zeros, padding};
+use c6x_asm_object::{Object, Definition, add_align, add_number, add_zeros, padding};
 use c6x_asm_operands::Field;
 use std::alloc::{AllocError, Global};
 
@@ -20,7 +20,7 @@ pub fn has_room(size: u32, count: u32) -> bool
     u64::from(size) + u64::from(count) <= 1_048_576
 }
 
-#[tactic(auto, unfolding(crate::specs::Adding::with_field), using(std::proofs::lemmas::List::get_or_default))]
+#[tactic(auto, unfolding(crate::specs::Directives::with_field), using(std::proofs::lemmas::List::get_or_default))]
 fn add_field<'a>(
     text: &'a [u8],
     object: &mut Object<'a>,
@@ -29,18 +29,18 @@ fn add_field<'a>(
     field: Field,
 ) -> Result<Result<(), AsmRule>, AllocError>
     requires sound { IsSound text.now object.old }
-    requires there { i < vec_len object.old.parts }
+    requires there { i < vec_len object.old.sections }
     requires few { size ≤ 4 }
     ensures is { IfOk result (λ done. Becomes done object.new (with_field text.now i size (state_of object.old) field)) }
-    ensures parts { IfOk result (λ done. vec_len object.new.parts ≡ vec_len object.old.parts) }
+    ensures sections { IfOk result (λ done. vec_len object.new.sections ≡ vec_len object.old.sections) }
     ensures sound { IfOk result (λ done. IsSound text.now object.new) }
 {
-    let offset = object.parts[i].size;
+    let offset = object.sections[i].size;
     if !has_room(offset, size) {
         return Ok(Err(AsmRule::Large));
     }
     let entry = relocate(text, &mut object.symbols, offset, field.relocation)?;
-    add_number(&mut object.parts, i, size, field.bits, entry)?;
+    add_number(&mut object.sections, i, size, field.bits, entry)?;
     Ok(Ok(()))
 }
 
@@ -52,10 +52,10 @@ fn add_fields<'a>(
     fields: &[Field],
 ) -> Result<Result<(), AsmRule>, AllocError>
     requires sound { IsSound text.now object.old }
-    requires there { i < vec_len object.old.parts }
+    requires there { i < vec_len object.old.sections }
     requires few { size ≤ 4 }
     ensures is { IfOk result (λ done. Becomes done object.new (with_fields text.now i size (state_of object.old) fields.now)) }
-    ensures parts { IfOk result (λ done. vec_len object.new.parts ≡ vec_len object.old.parts) }
+    ensures sections { IfOk result (λ done. vec_len object.new.sections ≡ vec_len object.old.sections) }
     ensures sound { IfOk result (λ done. IsSound text.now object.new) }
 {
     for field in fields {
@@ -68,32 +68,32 @@ fn add_fields<'a>(
 
 #[tactic(auto, using(std::proofs::lemmas::List::get_or_default))]
 fn add_space(object: &mut Object, i: usize, count: u32) -> Result<Result<(), AsmRule>, AllocError>
-    requires there { i < vec_len object.old.parts }
+    requires there { i < vec_len object.old.sections }
     ensures is { IfOk result (λ done. Becomes done object.new (with_space count (state_of object.old) i)) }
-    ensures parts { IfOk result (λ done. vec_len object.new.parts ≡ vec_len object.old.parts) }
+    ensures sections { IfOk result (λ done. vec_len object.new.sections ≡ vec_len object.old.sections) }
     ensures sound { IfOk result (λ done. (text : List ℕ) → IsSound text object.old → IsSound text object.new) }
 {
-    let size = object.parts[i].size;
+    let size = object.sections[i].size;
     if !has_room(size, count) {
         return Ok(Err(AsmRule::Large));
     }
-    add_zeros(&mut object.parts, i, count)?;
+    add_zeros(&mut object.sections, i, count)?;
     Ok(Ok(()))
 }
 
 #[tactic(auto, using(std::proofs::lemmas::List::get_or_default))]
 fn align_to(object: &mut Object, i: usize, align: u32) -> Result<Result<(), AsmRule>, AllocError>
-    requires there { i < vec_len object.old.parts }
+    requires there { i < vec_len object.old.sections }
     requires some { 1 ≤ align }
     ensures is { IfOk result (λ done. Becomes done object.new (with_alignment align (state_of object.old) i)) }
-    ensures parts { IfOk result (λ done. vec_len object.new.parts ≡ vec_len object.old.parts) }
+    ensures sections { IfOk result (λ done. vec_len object.new.sections ≡ vec_len object.old.sections) }
     ensures sound { IfOk result (λ done. (text : List ℕ) → IsSound text object.old → IsSound text object.new) }
 {
-    let size = object.parts[i].size;
+    let size = object.sections[i].size;
     if !has_room(size, padding(size, align)) {
         return Ok(Err(AsmRule::Large));
     }
-    add_align(&mut object.parts, i, align)?;
+    add_align(&mut object.sections, i, align)?;
     Ok(Ok(()))
 }
 
@@ -101,16 +101,16 @@ fn give_place<'a>(
     text: &'a [u8],
     object: &mut Object<'a>,
     word: Word,
-    spot: Spot,
+    definition: Definition,
 ) -> Result<Result<(), AsmRule>, AllocError>
     requires sound { IsSound text.now object.old }
-    ensures is { IfOk result (λ done. Becomes done object.new (given_place text.now (state_of object.old) word spot (placed_fault text.now object.old.symbols.list.items word))) }
+    ensures is { IfOk result (λ done. Becomes done object.new (given_place text.now (state_of object.old) word definition (placed_fault text.now object.old.symbols.list.items word))) }
     ensures sound { IfOk result (λ done. IsSound text.now object.new) }
 {
     match placed_fault(text, &object.symbols, word) {
         Some(rule) => Ok(Err(rule)),
         None => {
-            place(text, &mut object.symbols, word, spot)?;
+            place(text, &mut object.symbols, word, definition)?;
             Ok(Ok(()))
         }
     }
@@ -123,7 +123,7 @@ fn common_section(near: bool) -> usize
 }
 
 /// What a directive adds, or the rule that it breaks.
-#[tactic(auto, unfolding(crate::specs::Adding::applied))]
+#[tactic(auto, unfolding(crate::specs::Directives::applied))]
 pub fn apply<'a>(
     alloc: Global,
     text: &'a [u8],
@@ -152,8 +152,8 @@ pub fn apply<'a>(
             None => Ok(Err(AsmRule::NoSection)),
             Some(i) => align_to(object, i, *align),
         },
-        Directive::Mark { mark: kind, name } => {
-            mark(text, &mut object.symbols, *name, *kind)?;
+        Directive::Attribute { attribute: kind, name } => {
+            set_attribute(text, &mut object.symbols, *name, *kind)?;
             Ok(Ok(()))
         }
         Directive::Common {
@@ -162,20 +162,20 @@ pub fn apply<'a>(
             align,
             near,
         } => {
-            let spot = Spot {
+            let definition = Definition {
                 section: common_section(*near),
                 value: *align,
                 size: *size,
             };
-            give_place(text, object, *name, spot)
+            give_place(text, object, *name, definition)
         }
         Directive::Set { name, value } => {
-            let spot = Spot {
+            let definition = Definition {
                 section: 0xFFF1,
                 value: *value,
                 size: 0,
             };
-            give_place(text, object, *name, spot)
+            give_place(text, object, *name, definition)
         }
     }
 }
