@@ -3,7 +3,8 @@ use Rattle.std.proofs.Common.{◌≡◌, ℕ, suc, zero, ◌+◌, ◌-◌, ◌%�
 use Rattle.std.proofs.lemmas.Bool.{eqb-true, eqb-false}
 use Rattle.std.proofs.lemmas.List.{length-map, length-take-le, length-append, get_or_append_left, get_or_at}
 use Rattle.c6x_packet.specs.Packets.{IsChain}
-use Rattle.c6x_asm.specs.Packets.{odd, even}
+use Rattle.c6x_asm.specs.Packets.{even}
+use Rattle.c6x_asm_object.specs.Sections.{odd}
 
 odd_is : (w : ℕ) → odd w % 2 ≡ 1
 odd_is w = either (eqb (w % 2) 0) refl

@@ -1,12 +1,10 @@
 -- A packet goes from an instruction without `||` to the last one with it (SPRU732, "Parallel Operations").
 use Rattle.std.specs.Prelude.{ℕ, ◌+◌, ◌-◌, ◌%◌, ◌==◌, nat_le, Bool, true, false, not, ◌&&◌, if◌then◌else◌, List, [], ◌∷◌, ◌++◌, length, map, take, slice_index, Option, Some, None, is_ok}
 use Rattle.c6x_packet.specs.Packets.{split_of}
+use Rattle.c6x_asm_object.specs.Sections.{odd}
 use Rattle.c6x_asm_object.specs.declared.instr_word.InstrWord.{InstrWord}
 
--- the word with its p bit set, and with it clear
-abbrev pub odd : ℕ → ℕ
-odd w = if w % 2 == 0 then w + 1 else w
-
+-- the word with its p bit clear
 abbrev pub even : ℕ → ℕ
 even w = w - w % 2
 

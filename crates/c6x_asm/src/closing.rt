@@ -1,6 +1,7 @@
 ghost use Rattle.std.specs.Prelude.{◌≡◌, ◌-◌, ◌<◌, ◌≤◌, map, take, length, IfOk};
 ghost use Rattle.c6x_packet.specs.Packets.{IsChain};
-ghost use Rattle.c6x_asm.specs.Packets.{odd, even, closed, is_packet};
+ghost use Rattle.c6x_asm.specs.Packets.{even, closed, is_packet};
+ghost use Rattle.c6x_asm_object.specs.Sections.{odd};
 
 use c6x_packet::split;
 use std::alloc::{AllocError, Global};

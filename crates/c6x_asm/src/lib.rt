@@ -13,8 +13,3 @@ pub use asm_error::AsmError;
 pub use assembling::assemble;
 pub use broken::Broken;
 pub use c6x_asm_lines::AsmRule;
-
-#[cfg(test)]
-mod refusals;
-#[cfg(test)]
-mod tests;

@@ -13,17 +13,16 @@ use Rattle.c6x_asm_operands.specs.declared.relocatable.Field.{Field}
 use Rattle.c6x_asm_operands.specs.declared.range.Range.{Range}
 use Rattle.c6x_asm_lines.specs.declared.rule.AsmRule.{AsmRule}
 use Rattle.c6x_asm_lines.specs.declared.rule.AsmRule.TheVariants.{Syntax, UnknownWord, Operand as BadOperand, Range as OutOfRange}
+use Rattle.c6x_asm_operands.specs.Numbers.{range_of}
 use Rattle.c6x_asm_operands.specs.Operands.{constant_operand, field_operand}
-use Rattle.c6x_asm_lines.specs.Rules.{lower, both, ◌>>=◌}
+use Rattle.c6x_asm_lines.specs.Rules.{lower, both}
+use Rattle.c6x_spec.specs.Results.{◌>>=◌}
 use Rattle.c6x_asm_directives.specs.declared.directive.Directive.{Directive}
 use Rattle.c6x_asm_directives.specs.declared.directive.Directive.TheVariants.{Section, Numbers, Space, Align, Attribute as SetAttribute, Common, Set}
 use Rattle.c6x_asm_directives.specs.declared.keyword.Keyword.{Keyword}
 use Rattle.c6x_asm_directives.specs.declared.keyword.Keyword.TheVariants.{Sect, Word as WordKey, Half, Byte, Space as SpaceKey, Align as AlignKey, Global, Weak, Hidden, Common as CommonKey, NearCommon, Set as SetKey}
 use Rattle.c6x_asm_directives.specs.declared.symbol_attribute.SymbolAttribute.{SymbolAttribute}
 use Rattle.c6x_asm_directives.specs.declared.symbol_attribute.SymbolAttribute.TheVariants.{Global as AttributeGlobal, Weak as AttributeWeak, Hidden as AttributeHidden}
-
-abbrev pub range_of : ℕ → ℕ → ℕ → ℕ → Range
-range_of below least most modulus = record { below = below; least = least; most = most; step = 1; modulus = modulus }
 
 -- a name of 1 to 64 bytes from 0x21 to 0x7E
 abbrev pub is_visible : ℕ → Bool

@@ -1,8 +1,8 @@
 ghost use Rattle.std.specs.Prelude.{◌≡◌, codes};
-ghost use Rattle.std.specs.Str.{bytes_eq};
 ghost use Rattle.c6x_asm_directives.specs.Keywords.{keyword_name, keyword_of};
 
 use crate::keyword::Keyword;
+use c6x_asm_lines::same_bytes;
 
 const KEYWORDS: [Keyword; 12] = [
     Keyword::Sect,
@@ -36,12 +36,6 @@ fn keyword_name(keyword: Keyword) -> &'static [u8]
         Keyword::NearCommon => b".nearcommon",
         Keyword::Set => b".set",
     }
-}
-
-fn same_bytes(word: &[u8], name: &[u8]) -> bool
-    ensures { result ≡ bytes_eq word.now name.now }
-{
-    word == name
 }
 
 /// The directive with this name.

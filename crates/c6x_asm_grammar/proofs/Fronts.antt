@@ -1,7 +1,8 @@
 -- What a reader takes from the front of the lexemes is spelled so: values and addresses.
 use Rattle.std.proofs.Common.{◌≡◌, ◌≢◌, nat_le, Bool, true, false, if◌then◌else◌, List, [], ◌∷◌, ◌++◌, map, Option, Some, None, refl, sym, ap, subst, ◌∙◌, append_assoc, arith}
 use Rattle.std.proofs.lemmas.Bool.Decides.{nat_tests}
-use Rattle.c6x_asm_lines.specs.Grammar.{◌>>=◌, base_of, close_bracket, close_parenthesis, mode_of, read_addend, read_address, read_base, read_number, read_offset, read_primary, read_modifier, read_symbol, read_value, read_worded, turned}
+use Rattle.c6x_asm_lines.specs.Grammar.{base_of, close_bracket, close_parenthesis, mode_of, read_addend, read_address, read_base, read_number, read_offset, read_primary, read_modifier, read_symbol, read_value, read_worded, turned}
+use Rattle.c6x_spec.specs.Options.{◌>>=◌}
 use Rattle.c6x_asm_lines.specs.declared.address.Address.{Address}
 use Rattle.c6x_asm_lines.specs.declared.lexeme.Lexeme.{Lexeme}
 use Rattle.c6x_asm_lines.specs.declared.lexeme.Lexeme.TheVariants.{Word as Worded, Number as Numbered, Punctuator as Punctuated}

@@ -1,7 +1,8 @@
 -- Operands that are spelled are read, each to its end, and the commas between them part them.
 use Rattle.std.proofs.Common.{◌≡◌, ◌≢◌, nat_le, if◌then◌else◌, false, List, [], ◌∷◌, ◌++◌, map, Option, Some, None, refl, subst, ◌∙◌, append-nil}
 use Rattle.std.specs.List.{slice_split}
-use Rattle.c6x_asm_lines.specs.Grammar.{◌>>=◌, all_operands, base_of, is_comma, operands_of, read_address, read_offset, read_operand, read_modifier, read_value, whole_operand}
+use Rattle.c6x_asm_lines.specs.Grammar.{all_operands, base_of, is_comma, operands_of, read_address, read_offset, read_operand, read_modifier, read_value, whole_operand}
+use Rattle.c6x_spec.specs.Options.{◌>>=◌}
 use Rattle.c6x_asm_lines.specs.declared.address.Address.{Address}
 use Rattle.c6x_asm_lines.specs.declared.lexeme.Lexeme.{Lexeme}
 use Rattle.c6x_asm_lines.specs.declared.lexeme.Lexeme.TheVariants.{Word as Worded, Punctuator as Punctuated}

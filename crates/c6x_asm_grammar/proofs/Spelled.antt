@@ -8,7 +8,8 @@ use Rattle.c6x_instr.specs.declared.cond.Cond.{Cond}
 use Rattle.c6x_instr.specs.declared.cond.Cond.TheVariants.{Always, If}
 use Rattle.c6x_instr.specs.declared.cond_reg.CondReg.{CondReg}
 use Rattle.c6x_instr.specs.declared.cond_reg.CondReg.TheVariants.{B0, B1, B2, A1, A2, A0}
-use Rattle.c6x_asm_lines.specs.Grammar.{◌>>=◌, all_operands, cond_reg_of, condition_on, is_comma, is_conditional, is_dotted, is_name, line_of, operands_of, read_address, read_parallel_bars, read_condition, read_head, read_label, read_operand, read_unit, read_value, read_word, statement_of, unit_word, whole_operand, with_no_rest}
+use Rattle.c6x_asm_lines.specs.Grammar.{all_operands, cond_reg_of, condition_on, is_comma, is_conditional, is_dotted, is_name, line_of, operands_of, read_address, read_parallel_bars, read_condition, read_head, read_label, read_operand, read_unit, read_value, read_word, statement_of, unit_word, whole_operand, with_no_rest}
+use Rattle.c6x_spec.specs.Options.{◌>>=◌}
 use Rattle.c6x_asm_lines.specs.declared.statement_head.StatementHead.{StatementHead}
 use Rattle.c6x_asm_lines.specs.declared.lexeme.Lexeme.{Lexeme}
 use Rattle.c6x_asm_lines.specs.declared.lexeme.Lexeme.TheVariants.{Word as Worded, Text, Punctuator as Punctuated}

@@ -1,7 +1,8 @@
 -- Numbers, plain values and values that are spelled are read, whatever may follow them.
 use Rattle.std.proofs.Common.{◌≡◌, ◌≢◌, nat_le, true, List, [], ◌∷◌, ◌++◌, Some, None, refl, ◌∙◌, append_assoc, arith}
 use Rattle.std.proofs.lemmas.Bool.Decides.{nat_tests}
-use Rattle.c6x_asm_lines.specs.Grammar.{◌>>=◌, is_name, read_addend, read_number, read_primary, read_symbol, read_value, read_worded}
+use Rattle.c6x_asm_lines.specs.Grammar.{is_name, read_addend, read_number, read_primary, read_symbol, read_value, read_worded}
+use Rattle.c6x_spec.specs.Options.{◌>>=◌}
 use Rattle.c6x_asm_lines.specs.declared.lexeme.Lexeme.{Lexeme}
 use Rattle.c6x_asm_lines.specs.declared.lexeme.Lexeme.TheVariants.{Word as Worded, Punctuator as Punctuated}
 use Rattle.c6x_asm_lines.specs.declared.number.Number.{Number}

@@ -40,13 +40,11 @@ use Rattle.c6x_asm_lines.specs.declared.rule.AsmRule.TheVariants.{Syntax, Unknow
 use Rattle.c6x_asm_operands.specs.declared.unit.Unit.{Unit}
 use Rattle.c6x_asm_operands.specs.Addresses.{place_of}
 use Rattle.c6x_asm_operands.specs.Names.{mnemonic_of, unit_of}
-use Rattle.c6x_asm_operands.specs.Numbers.{number_in}
+use Rattle.c6x_asm_operands.specs.Numbers.{number_in, range_of}
 use Rattle.c6x_asm_operands.specs.Operands.{same_side, register_on, register_operand, constant_operand, field_operand}
 use Rattle.c6x_asm_lines.specs.Bytes.{bytes_at}
-use Rattle.c6x_asm_lines.specs.Rules.{both, ◌>>=◌}
-
-abbrev pub range_of : ℕ → ℕ → ℕ → ℕ → Range
-range_of below least most modulus = record { below = below; least = least; most = most; step = 1; modulus = modulus }
+use Rattle.c6x_asm_lines.specs.Rules.{both}
+use Rattle.c6x_spec.specs.Results.{◌>>=◌}
 
 abbrev pub other_side : Side → Side
 other_side A = B

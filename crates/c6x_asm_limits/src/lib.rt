@@ -7,8 +7,5 @@ mod placing;
 mod stretch;
 mod summary;
 mod summing;
-#[cfg(test)]
-mod tests;
-
 pub use large::is_large;
 pub use outline::Outline;

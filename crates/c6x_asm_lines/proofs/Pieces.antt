@@ -6,7 +6,8 @@ use Rattle.std.proofs.lemmas.List.Splits.{slice_split_first}
 use Rattle.std.specs.List.{slice_split, position_or_len, onto_first}
 use Rattle.c6x_asm_lines.specs.declared.lexeme.Lexeme.{Lexeme}
 use Rattle.c6x_asm_lines.specs.declared.operand.Operand.{Operand}
-use Rattle.c6x_asm_lines.specs.Grammar.{is_comma, whole_operand, all_operands, operands_of, ◌>>=◌}
+use Rattle.c6x_asm_lines.specs.Grammar.{is_comma, whole_operand, all_operands, operands_of}
+use Rattle.c6x_spec.specs.Options.{◌>>=◌}
 
 abbrev pub behind : List Operand → Option (List Operand) → Option (List Operand)
 behind done None = None

@@ -1,5 +1,6 @@
 use Rattle.std.specs.Prelude.{ℕ, nat_le, Bool, true, false, not, ◌||◌, ◌&&◌, ◌==◌, if◌then◌else◌, List, [], ◌∷◌, Option, Some, None}
 use Rattle.std.specs.List.{slice_split}
+use Rattle.c6x_spec.specs.Options.{◌>>=◌}
 use Rattle.c6x_base.specs.declared.side.Side.{Side}
 use Rattle.c6x_base.specs.declared.side.Side.TheVariants.{A, B}
 use Rattle.c6x_instr.specs.declared.cond.Cond.{Cond}
@@ -34,11 +35,6 @@ use Rattle.c6x_asm_lines.specs.declared.word.WordClass.TheVariants.{Register as 
 -- what is read from the front of a line, and what is left of it
 abbrev pub Read : Type 0 → Type 0
 Read T = Option (T × List Lexeme)
-
-infixl 2 ◌>>=◌
-abbrev pub ◌>>=◌ : {T U : Type 0} → Option T → (T → Option U) → Option U
-None >>= next = None
-(Some x) >>= next = next x
 
 abbrev pub read_number : List Lexeme → Read Number
 read_number (Numbered size ∷ rest) = Some (record { negative = false; size = size }, rest)

@@ -3,6 +3,7 @@ use Rattle.std.specs.Prelude.{ℕ, ◌+◌, ◌-◌, ◌*◌, ◌^◌, nat_le, n
 use Rattle.std.specs.List.{onto_first}
 use Rattle.c6x_base.specs.declared.side.Side.{Side}
 use Rattle.c6x_base.specs.declared.side.Side.TheVariants.{A, B}
+use Rattle.c6x_lex.specs.Forms.{is_digit}
 use Rattle.c6x_lex.specs.declared.token.Token.{Token}
 use Rattle.c6x_lex.specs.declared.kind.TokenKind.{TokenKind}
 use Rattle.c6x_lex.specs.declared.kind.TokenKind.TheVariants.{Word as WordToken, Number as NumberToken, Text as TextToken, Punctuator as PunctuatorToken, NewLine}
@@ -13,14 +14,11 @@ use Rattle.c6x_asm_lines.specs.declared.lexeme.Lexeme.{Lexeme}
 use Rattle.c6x_asm_lines.specs.declared.lexeme.Lexeme.TheVariants.{Word as Worded, Number as Numbered, Text, Punctuator as Punctuated}
 use Rattle.c6x_asm_lines.specs.declared.word.WordClass.{WordClass}
 use Rattle.c6x_asm_lines.specs.declared.word.WordClass.TheVariants.{Register as RegisterClass, Dotted, Nop, Other}
-use Rattle.c6x_asm_lines.specs.Grammar.{◌>>=◌}
+use Rattle.c6x_spec.specs.Options.{◌>>=◌}
 
 -- `A` and `B`, in either case
 abbrev pub side_of : ℕ → Option Side
 side_of b = if b == 65 || b == 97 then Some A else if b == 66 || b == 98 then Some B else None
-
-abbrev pub is_digit : ℕ → Bool
-is_digit b = nat_le 48 b && nat_le b 57
 
 -- 0 to 9
 abbrev pub one_digit : ℕ → Option ℕ

@@ -29,8 +29,3 @@ both (Ok a) (Ok b) = Ok (a, b)
 both (Ok a) (Err r) = Err r
 both (Err r) (Ok b) = Err r
 both (Err r) (Err s) = Err (lower r s)
-
-infixl 2 ◌>>=◌
-abbrev pub ◌>>=◌ : {T U : Type 0} → Result T AsmRule → (T → Result U AsmRule) → Result U AsmRule
-(Ok x) >>= next = next x
-(Err r) >>= next = Err r

@@ -2,14 +2,14 @@ ghost use Rattle.std.specs.Prelude.{◌≡◌};
 ghost use Rattle.c6x_asm_lines.specs.Grammar.{read_modifier, read_base, read_offset, mode_of, read_address};
 
 use crate::address::Address;
+use crate::base_modifier::BaseModifier;
 use crate::lexeme::Lexeme;
 use crate::mode::Mode;
 use crate::offset::Offset;
 use crate::parts::{close_bracket, close_parenthesis, read_value};
+use crate::punctuator::Punctuator;
 use crate::register::Register;
 use crate::remaining::Remaining;
-use crate::punctuator::Punctuator;
-use crate::base_modifier::BaseModifier;
 use crate::word::WordClass;
 
 fn read_modifier<'t>(lexemes: &'t [Lexeme]) -> (BaseModifier, Remaining<'t>)

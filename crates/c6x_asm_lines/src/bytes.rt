@@ -1,4 +1,5 @@
 ghost use Rattle.std.specs.Prelude.{◌≡◌};
+ghost use Rattle.std.specs.Str.{bytes_eq};
 ghost use Rattle.c6x_asm_lines.specs.Bytes.{bytes_at};
 
 /// The bytes of a word or a quoted text, by its offset and length in the text.
@@ -13,4 +14,11 @@ pub fn bytes_at<'t>(text: &'t [u8], at: u32, len: u32) -> &'t [u8]
     } else {
         &[]
     }
+}
+
+/// Whether two texts have the same bytes.
+pub fn same_bytes(a: &[u8], b: &[u8]) -> bool
+    ensures { result ≡ bytes_eq a.now b.now }
+{
+    a == b
 }

@@ -1,11 +1,11 @@
 ghost use Rattle.std.specs.Prelude.{◌≡◌};
 ghost use Rattle.c6x_asm_lines.specs.Grammar.{is_name, read_label, read_parallel_bars, cond_reg_of, condition_on, read_condition, read_word, read_unit, read_head};
 
-use crate::statement_head::StatementHead;
 use crate::lexeme::Lexeme;
+use crate::punctuator::Punctuator;
 use crate::register::Register;
 use crate::remaining::Remaining;
-use crate::punctuator::Punctuator;
+use crate::statement_head::StatementHead;
 use crate::word::{Word, WordClass};
 use c6x_base::Side;
 use c6x_instr::{Cond, CondReg};

@@ -1,5 +1,5 @@
-use crate::statement_head::StatementHead;
 use crate::operand::Operand;
+use crate::statement_head::StatementHead;
 use crate::word::Word;
 use c6x_base::Row;
 

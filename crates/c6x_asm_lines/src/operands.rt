@@ -7,8 +7,8 @@ use crate::addresses::read_address;
 use crate::lexeme::Lexeme;
 use crate::operand::Operand;
 use crate::parts::read_value;
-use crate::remaining::Remaining;
 use crate::punctuator::Punctuator;
+use crate::remaining::Remaining;
 use std::alloc::{AllocError, Global};
 
 #[tactic(auto, unfolding(crate::specs::Grammar::read_operand))]

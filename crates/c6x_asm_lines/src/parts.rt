@@ -4,8 +4,8 @@ ghost use Rattle.c6x_asm_lines.specs.Grammar.{read_number, read_addend, read_pri
 use crate::lexeme::Lexeme;
 use crate::number::Number;
 use crate::primary::Primary;
-use crate::remaining::Remaining;
 use crate::punctuator::Punctuator;
+use crate::remaining::Remaining;
 use crate::value::Value;
 use crate::word::WordClass;
 

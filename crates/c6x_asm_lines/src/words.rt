@@ -3,8 +3,8 @@ ghost use Rattle.c6x_asm_lines.specs.Lexemes.{side_of, one_digit, two_digits, re
 ghost use Rattle.c6x_asm_lines.specs.Digits.{one_more};
 
 use crate::lexeme::Lexeme;
-use crate::register::Register;
 use crate::punctuator::Punctuator;
+use crate::register::Register;
 use crate::word::{Word, WordClass};
 use c6x_base::Side;
 use c6x_lex::{Token, TokenKind};

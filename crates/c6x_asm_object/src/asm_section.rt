@@ -1,7 +1,7 @@
-use crate::reloc_entry::RelocEntry;
-use crate::items::Items;
-use crate::section_kind::SectionKind;
 use crate::instr_word::InstrWord;
+use crate::items::Items;
+use crate::reloc_entry::RelocEntry;
+use crate::section_kind::SectionKind;
 
 /// A section as the lines so far make it.
 #[derive(Debug, Drop)]

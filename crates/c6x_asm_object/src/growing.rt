@@ -1,12 +1,12 @@
 ghost use Rattle.std.specs.Prelude.{◌≡◌, ◌+◌, ◌-◌, ◌%◌, ◌^◌, ◌<◌, ◌≤◌, length, OnOk};
 ghost use Rattle.c6x_asm_object.specs.Sections.{empty_section, is_zero, with_bytes, with_zeros, padding, with_align, with_entry, with_number, odd, with_parallel, with_instruction};
 
-use crate::reloc_entry::RelocEntry;
+use crate::asm_section::AsmSection;
+use crate::instr_word::InstrWord;
 use crate::items::Items;
 use crate::naming::first_align;
-use crate::asm_section::AsmSection;
+use crate::reloc_entry::RelocEntry;
 use crate::section_kind::SectionKind;
-use crate::instr_word::InstrWord;
 use std::alloc::{AllocError, Global};
 
 /// A section without contents.
@@ -27,7 +27,8 @@ pub fn empty_section(alloc: Global, at: u32, len: u32, kind: SectionKind) -> Asm
     }
 }
 
-fn is_zero(kind: SectionKind) -> bool
+/// Whether a section has no bytes in the file.
+pub fn is_zero(kind: SectionKind) -> bool
     ensures { result ≡ is_zero kind }
 {
     matches!(kind, SectionKind::Zero)

@@ -1,14 +1,8 @@
 ghost use Rattle.std.specs.Prelude.{◌≡◌, codes};
-ghost use Rattle.std.specs.Str.{bytes_eq};
 ghost use Rattle.c6x_asm_object.specs.Kinds.{is_under, kind_named, first_align};
 
 use crate::section_kind::SectionKind;
-
-fn same_bytes(a: &[u8], b: &[u8]) -> bool
-    ensures { result ≡ bytes_eq a.now b.now }
-{
-    a == b
-}
+use c6x_asm_lines::same_bytes;
 
 fn is_under(name: &[u8], front: &[u8], bytes: &[u8]) -> bool
     ensures { result ≡ is_under name.now front.now bytes.now }

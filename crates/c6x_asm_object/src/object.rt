@@ -1,8 +1,8 @@
 ghost use Rattle.std.specs.Prelude.{◌≡◌, ℕ, [], List, None};
 ghost use Rattle.c6x_asm_object.specs.Named.{AreNamed};
 
-use crate::names::Names;
 use crate::asm_section::AsmSection;
+use crate::names::Names;
 use crate::symbols::Symbols;
 use std::alloc::Global;
 

@@ -2,10 +2,10 @@ ghost use Rattle.std.specs.Prelude.{◌≡◌, ℕ, ◌+◌, ◌^◌, ◌<◌, �
 ghost use Rattle.c6x_asm_object.specs.Sections.{padding, with_zeros, with_align, with_number, with_instruction, section_at, changed};
 ghost use Rattle.c6x_asm_object.specs.Named.{section_names};
 
-use crate::reloc_entry::RelocEntry;
-use crate::growing::{put_align, put_instruction, put_number, put_zeros};
 use crate::asm_section::AsmSection;
+use crate::growing::{put_align, put_instruction, put_number, put_zeros};
 use crate::instr_word::InstrWord;
+use crate::reloc_entry::RelocEntry;
 use std::alloc::AllocError;
 
 /// `.space` in the section with this number.

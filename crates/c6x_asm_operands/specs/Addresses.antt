@@ -21,7 +21,8 @@ use Rattle.c6x_asm_lines.specs.declared.rule.AsmRule.{AsmRule}
 use Rattle.c6x_asm_lines.specs.declared.rule.AsmRule.TheVariants.{Operand as BadOperand}
 use Rattle.c6x_asm_operands.specs.Numbers.{number_in}
 use Rattle.c6x_asm_operands.specs.Operands.{register_on, value_field}
-use Rattle.c6x_asm_lines.specs.Rules.{both, ◌>>=◌}
+use Rattle.c6x_asm_lines.specs.Rules.{both}
+use Rattle.c6x_spec.specs.Results.{◌>>=◌}
 
 -- a base register on the unit's side
 abbrev pub base_on : Side → Option Register → Result ℕ AsmRule

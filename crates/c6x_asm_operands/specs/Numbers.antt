@@ -5,6 +5,10 @@ use Rattle.c6x_asm_lines.specs.declared.rule.AsmRule.{AsmRule}
 use Rattle.c6x_asm_lines.specs.declared.rule.AsmRule.TheVariants.{Range as OutOfRange}
 use Rattle.c6x_asm_operands.specs.declared.range.Range.{Range}
 
+-- every number of a range, one by one
+abbrev pub range_of : ℕ → ℕ → ℕ → ℕ → Range
+range_of below least most modulus = record { below = below; least = least; most = most; step = 1; modulus = modulus }
+
 abbrev pub is_within : Range → Bool → ℕ → Bool
 is_within range negative size =
     if negative then nat_le size range.below && range.least == 0

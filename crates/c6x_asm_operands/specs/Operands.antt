@@ -18,7 +18,7 @@ use Rattle.c6x_asm_lines.specs.declared.rule.AsmRule.{AsmRule}
 use Rattle.c6x_asm_lines.specs.declared.rule.AsmRule.TheVariants.{Syntax, UnknownWord, Operand as BadOperand}
 use Rattle.c6x_asm_operands.specs.declared.range.Range.{Range}
 use Rattle.c6x_asm_operands.specs.declared.relocatable.Field.{Field}
-use Rattle.c6x_asm_lines.specs.Rules.{◌>>=◌}
+use Rattle.c6x_spec.specs.Results.{◌>>=◌}
 use Rattle.c6x_asm_operands.specs.Names.{kind_of}
 use Rattle.c6x_asm_operands.specs.Numbers.{number_in}
 

@@ -2,27 +2,27 @@
 #![tactic(auto)]
 
 mod addresses;
-mod relocatable;
+mod data_path;
 mod mnemonic;
 mod names;
 mod numbers;
 mod operands;
-mod data_path;
 mod place;
 mod range;
+mod relocatable;
 mod relocation;
 mod unit;
 
 pub use addresses::place_of;
-pub use relocatable::{Field, RelocatableOp};
+pub use data_path::DataPath;
 pub use mnemonic::Mnemonic;
 pub use names::{kind_of, mnemonic_name, mnemonic_of, unit_of};
 pub use numbers::number_in;
 pub use operands::{
     constant_operand, field_operand, register_on, register_operand, same_side, value_field,
 };
-pub use data_path::DataPath;
 pub use place::Place;
 pub use range::Range;
+pub use relocatable::{Field, RelocatableOp};
 pub use relocation::Relocation;
 pub use unit::Unit;

@@ -1,10 +1,11 @@
 ghost use Rattle.std.specs.Prelude.{◌≡◌, codes};
-ghost use Rattle.std.specs.Str.{bytes_eq, str_eq_ignore_ascii_case};
+ghost use Rattle.std.specs.Str.{str_eq_ignore_ascii_case};
 ghost use Rattle.c6x_asm_operands.specs.Names.{arith_name, move_name, access_name, mnemonic_name, mnemonic_of, kind_name, kind_of, unit_side, crossing_kind, unit_kind, memory_kind, cross_path, value_path, unit_with, unit_of};
 
-use crate::mnemonic::Mnemonic;
 use crate::data_path::DataPath;
+use crate::mnemonic::Mnemonic;
 use crate::unit::Unit;
+use c6x_asm_lines::same_bytes;
 use c6x_base::Side;
 use c6x_instr::{Access, Arith, MoveKind, UnitKind};
 use c6x_reloc::RelocKind;
@@ -142,12 +143,6 @@ fn same_letters(word: &[u8], name: &[u8]) -> bool
     ensures { result ≡ str_eq_ignore_ascii_case word.now name.now }
 {
     word.eq_ignore_ascii_case(name)
-}
-
-fn same_bytes(word: &[u8], name: &[u8]) -> bool
-    ensures { result ≡ bytes_eq word.now name.now }
-{
-    word == name
 }
 
 /// The mnemonic with this name, in either case.

@@ -3,10 +3,10 @@ ghost use Rattle.c6x_reloc.specs.Table.{row_of};
 ghost use Rattle.c6x_asm_operands.specs.Operands.{same_side, register_on, register_operand, constant_operand, addend_of, symbol_field, same_field, is_index, index_field, inner_field, named_field, value_field, field_operand};
 ghost use Rattle.c6x_asm_lines.specs.Bytes.{bytes_at};
 
-use crate::relocatable::Field;
 use crate::names::kind_of;
 use crate::numbers::number_in;
 use crate::range::Range;
+use crate::relocatable::Field;
 use crate::relocation::Relocation;
 use c6x_asm_lines::{AsmRule, Number, Operand, Primary, Register, Value, Word};
 use c6x_base::Side;

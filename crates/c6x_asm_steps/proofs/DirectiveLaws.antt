@@ -12,7 +12,8 @@ use Rattle.c6x_asm_directives.specs.declared.keyword.Keyword.{Keyword}
 use Rattle.c6x_asm_directives.specs.declared.keyword.Keyword.TheVariants.{Sect, Word as WordKey, Half, Byte, Space as SpaceKey, Align as AlignKey, Global, Weak, Hidden, Common as CommonKey, NearCommon, Set as SetKey}
 use Rattle.c6x_asm_directives.specs.declared.symbol_attribute.SymbolAttribute.{SymbolAttribute}
 use Rattle.c6x_asm_directives.specs.declared.symbol_attribute.SymbolAttribute.TheVariants.{Global as AttributeGlobal, Weak as AttributeWeak, Hidden as AttributeHidden}
-use Rattle.c6x_asm_directives.specs.Directives.{align_of, any_number, common_of, directive_by, fields_of, is_power, is_section_name, attribute_of, name_operand, numbers_of, range_of, sect_of, section_named, set_of, space_of}
+use Rattle.c6x_asm_directives.specs.Directives.{align_of, any_number, common_of, directive_by, fields_of, is_power, is_section_name, attribute_of, name_operand, numbers_of, sect_of, section_named, set_of, space_of}
+use Rattle.c6x_asm_operands.specs.Numbers.{range_of}
 use Rattle.c6x_asm_lines.specs.Bytes.{bytes_at}
 use Rattle.c6x_asm_object.specs.declared.asm_section.AsmSection.{AsmSection}
 use Rattle.c6x_asm_object.specs.Sections.{is_zero, section_at}

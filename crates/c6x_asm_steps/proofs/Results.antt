@@ -2,7 +2,7 @@
 use Rattle.std.proofs.Common.{◌≡◌, Bool, true, false, Option, Some, None, Result, Ok, Err, IfOk, refl, subst}
 use Rattle.std.specs.Prelude.{IfSome, if◌then◌else◌}
 use Rattle.c6x_asm_lines.specs.declared.rule.AsmRule.{AsmRule}
-use Rattle.c6x_asm_lines.specs.Rules.{◌>>=◌}
+use Rattle.c6x_spec.specs.Results.{◌>>=◌}
 use Rattle.c6x_asm_steps.specs.Instructions.{fails}
 
 -- what holds if there is a value holds of the value

@@ -3,7 +3,7 @@ use Rattle.std.specs.Prelude.{ℕ, ◌+◌, nat_le, Bool, if◌then◌else◌, L
 use Rattle.c6x_asm_operands.specs.declared.relocatable.Field.{Field}
 use Rattle.c6x_asm_lines.specs.declared.rule.AsmRule.{AsmRule}
 use Rattle.c6x_asm_lines.specs.declared.rule.AsmRule.TheVariants.{NoSection, Large}
-use Rattle.c6x_asm_lines.specs.Rules.{◌>>=◌}
+use Rattle.c6x_spec.specs.Results.{◌>>=◌}
 use Rattle.c6x_asm_directives.specs.declared.directive.Directive.{Directive}
 use Rattle.c6x_asm_directives.specs.declared.directive.Directive.TheVariants.{Section, Numbers, Space, Align, Attribute as SetAttribute, Common, Set}
 use Rattle.c6x_asm_lines.specs.declared.word.Word.{Word}

@@ -8,7 +8,8 @@ use Rattle.c6x_asm_lines.specs.declared.operand.Operand.{Operand}
 use Rattle.c6x_asm_operands.specs.declared.relocatable.RelocatableOp.{RelocatableOp}
 use Rattle.c6x_asm_lines.specs.declared.rule.AsmRule.{AsmRule}
 use Rattle.c6x_asm_lines.specs.declared.rule.AsmRule.TheVariants.{Syntax, Operand as BadOperand, NoSection, Large}
-use Rattle.c6x_asm_lines.specs.Rules.{lower, ◌>>=◌, lowest}
+use Rattle.c6x_asm_lines.specs.Rules.{lower, lowest}
+use Rattle.c6x_spec.specs.Results.{◌>>=◌}
 use Rattle.c6x_asm_instr.specs.Instructions.{instruction_of}
 use Rattle.c6x_asm_object.specs.declared.asm_section.AsmSection.{AsmSection}
 use Rattle.c6x_asm_object.specs.declared.instr_word.InstrWord.{InstrWord}

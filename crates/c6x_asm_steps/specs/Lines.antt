@@ -8,7 +8,7 @@ use Rattle.c6x_asm_lines.specs.Grammar.{is_dotted}
 use Rattle.c6x_asm_lines.specs.declared.rule.AsmRule.{AsmRule}
 use Rattle.c6x_asm_lines.specs.declared.rule.AsmRule.TheVariants.{UnknownWord, Operand as BadOperand}
 use Rattle.c6x_asm_lines.specs.Bytes.{bytes_at}
-use Rattle.c6x_asm_lines.specs.Rules.{◌>>=◌}
+use Rattle.c6x_spec.specs.Results.{◌>>=◌}
 use Rattle.c6x_asm_directives.specs.declared.keyword.Keyword.{Keyword}
 use Rattle.c6x_asm_directives.specs.declared.keyword.Keyword.TheVariants.{Word as WordKey, Half, Byte}
 use Rattle.c6x_asm_directives.specs.Directives.{directive_by}

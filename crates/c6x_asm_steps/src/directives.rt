@@ -4,9 +4,9 @@ ghost use Rattle.c6x_asm_steps.specs.States.{State, state_of, IsSound, Becomes, 
 ghost use Rattle.c6x_asm_steps.specs.Directives.{with_field, with_fields, with_space, with_alignment, given_place, common_section, applied};
 ghost use Rattle.c6x_asm_directives.specs.Bounds.{FitsDirective};
 
+use crate::relocations::relocate;
 use crate::sections::enter;
 use crate::symbols::{place, placed_fault, set_attribute};
-use crate::relocations::relocate;
 use c6x_asm_directives::Directive;
 use c6x_asm_lines::{AsmRule, Word};
 use c6x_asm_object::{Object, Definition, add_align, add_number, add_zeros, padding};

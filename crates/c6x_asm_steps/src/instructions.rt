@@ -8,7 +8,7 @@ use crate::directives::has_room;
 use crate::relocations::relocate;
 use c6x_asm_lines::{AsmRule, StatementHead, lower, lowest, Operand};
 use c6x_asm_instr::instruction_of;
-use c6x_asm_object::{Object, AsmSection, SectionKind, InstrWord, add_instruction};
+use c6x_asm_object::{add_instruction, AsmSection, InstrWord, is_zero, Object, SectionKind};
 use c6x_asm_operands::RelocatableOp;
 use c6x_encoding::{encode, is_valid};
 use c6x_instr::{Cond, Instr, Op};
@@ -42,13 +42,6 @@ fn chain_fault(chained: bool, behind: bool) -> Option<AsmRule>
     } else {
         None
     }
-}
-
-/// Whether a section has no bytes in the file.
-pub fn is_zero(kind: SectionKind) -> bool
-    ensures { result ≡ is_zero kind }
-{
-    matches!(kind, SectionKind::Zero)
 }
 
 #[tactic(auto, using(std::proofs::lemmas::List::get_or_default))]

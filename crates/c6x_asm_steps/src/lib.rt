@@ -2,14 +2,11 @@
 #![tactic(auto)]
 
 mod directives;
-mod sections;
 mod instructions;
 mod labels;
-mod symbols;
-mod relocations;
 mod lines;
+mod relocations;
+mod sections;
+mod symbols;
 
 pub use lines::step;
-
-#[cfg(test)]
-mod tests;

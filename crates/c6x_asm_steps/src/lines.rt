@@ -3,11 +3,11 @@ ghost use Rattle.c6x_asm_steps.specs.States.{State, state_of, IsSound, Becomes};
 ghost use Rattle.c6x_asm_steps.specs.Lines.{is_numbers, zero_fault, numbers_fault, with_keyword, with_statement, stated, after_label, fault_of_label, stepped};
 
 use crate::directives::apply;
-use crate::instructions::{instruct, is_zero};
+use crate::instructions::instruct;
 use crate::labels::{label_fault, set_label};
 use c6x_asm_directives::{Keyword, directive_of, keyword_of, kinds_fault};
 use c6x_asm_lines::{AsmRule, bytes_at, Line, lower, Operand, Statement, Word, WordClass};
-use c6x_asm_object::{Object, AsmSection};
+use c6x_asm_object::{AsmSection, is_zero, Object};
 use std::alloc::{AllocError, Global};
 
 fn is_numbers(keyword: Keyword) -> bool

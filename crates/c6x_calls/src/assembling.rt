@@ -1,4 +1,4 @@
-use crate::{AsmError, AsmRule, assemble};
+use c6x_asm::{AsmError, AsmRule, assemble};
 use std::test::Fail;
 
 #[test]
