@@ -1,3 +1,4 @@
+pub mod AsmRule
 pub mod Objects
 pub mod Lines
 pub mod Running

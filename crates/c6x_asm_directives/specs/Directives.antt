@@ -11,6 +11,7 @@ use Rattle.c6x_asm_lines.specs.declared.value.Value.TheVariants.{Primary as Prim
 use Rattle.c6x_asm_lines.specs.declared.word.Word.{Word}
 use Rattle.c6x_asm_operands.specs.declared.relocatable.Field.{Field}
 use Rattle.c6x_asm_operands.specs.declared.range.Range.{Range}
+use Rattle.c6x_asm_lines.specs.Bytes.{bytes_at}
 use Rattle.c6x_asm_lines.specs.declared.rule.AsmRule.{AsmRule}
 use Rattle.c6x_asm_lines.specs.declared.rule.AsmRule.TheVariants.{Syntax, UnknownWord, Operand as BadOperand, Range as OutOfRange}
 use Rattle.c6x_asm_operands.specs.Numbers.{range_of}

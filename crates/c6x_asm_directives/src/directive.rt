@@ -4,7 +4,7 @@ use c6x_asm_operands::Field;
 use c6x_base::Row;
 
 /// A directive with its operands.
-#[derive(Debug, Drop)]
+#[derive(Drop)]
 pub enum Directive {
     /// `.sect`: the offset of its name in the text, and the name's length.
     Section {

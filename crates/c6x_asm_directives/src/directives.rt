@@ -8,7 +8,7 @@ use crate::directive::Directive;
 use crate::fields::fields_of;
 use crate::keyword::Keyword;
 use crate::symbol_attribute::SymbolAttribute;
-use c6x_asm_lines::{AsmRule, both, Operand, Primary, Value, Word};
+use c6x_asm_lines::{AsmRule, both, bytes_at, Operand, Primary, Value, Word};
 use c6x_asm_operands::{constant_operand, Range};
 use c6x_base::Row;
 use std::alloc::{AllocError, Global};

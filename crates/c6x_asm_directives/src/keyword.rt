@@ -1,5 +1,5 @@
 /// The name of a directive.
-#[derive(Debug, Clone, Copy, PartialEq, Eq)]
+#[derive(Clone, Copy)]
 pub enum Keyword {
     Sect,
     Word,

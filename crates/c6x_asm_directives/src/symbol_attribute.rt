@@ -1,5 +1,5 @@
 /// What a directive says of a symbol.
-#[derive(Debug, Clone, Copy, PartialEq, Eq)]
+#[derive(Clone, Copy)]
 pub enum SymbolAttribute {
     Global,
     Weak,

@@ -8,7 +8,7 @@ use std::alloc::{AllocError, Global};
 use std::marker::Model;
 
 /// The sections of an object file so far, and the bytes of their names.
-#[derive(Debug, Drop)]
+#[derive(Drop)]
 pub struct SectionTable {
     sections: Vec<Section>,
     names: Items<u8>,

@@ -19,7 +19,7 @@ fn block_summary(text: &[u8], sections: &[AsmSection], block: usize) -> Summary
 }
 
 /// The sections of a text, summed up in blocks of 64: behind a line that touches one of them, one block is summed up anew.
-#[derive(Debug, Drop)]
+#[derive(Drop)]
 pub struct Outline {
     blocks: Vec<Summary>,
 }

@@ -1,5 +1,5 @@
 /// What consecutive sections do to a place in the file: `ahead` bytes, then up to a multiple of `align`, then `behind` bytes.
-#[derive(Debug, Clone, Copy, PartialEq, Eq)]
+#[derive(Clone, Copy)]
 pub struct Stretch {
     pub ahead: u32,
     pub align: u32,

@@ -1,7 +1,7 @@
 use crate::stretch::Stretch;
 
 /// What the limits ask of consecutive sections of a text.
-#[derive(Debug, Clone, Copy, PartialEq, Eq)]
+#[derive(Clone, Copy)]
 pub struct Summary {
     /// Where they end; unknown where their alignments do not divide one another, or where the numbers are large.
     pub stretch: Option<Stretch>,

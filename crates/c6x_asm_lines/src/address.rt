@@ -3,7 +3,7 @@ use crate::offset::Offset;
 use crate::register::Register;
 
 /// An address: `*` and what follows it.
-#[derive(Debug, Clone, Copy, PartialEq, Eq)]
+#[derive(Clone, Copy)]
 pub struct Address {
     /// None where a name stands in place of the base register.
     pub base: Option<Register>,

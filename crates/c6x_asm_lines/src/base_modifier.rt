@@ -1,5 +1,5 @@
 /// The signs before or behind the base of an address.
-#[derive(Debug, Clone, Copy, PartialEq, Eq)]
+#[derive(Clone, Copy)]
 pub enum BaseModifier {
     Unmodified,
     Plus,

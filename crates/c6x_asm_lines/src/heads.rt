@@ -1,5 +1,5 @@
 ghost use Rattle.std.specs.Prelude.{◌≡◌};
-ghost use Rattle.c6x_asm_lines.specs.Grammar.{is_name, read_label, read_parallel_bars, cond_reg_of, condition_on, read_condition, read_word, read_unit, read_head};
+ghost use Rattle.c6x_asm_lines.specs.Grammar.{is_name, read_label, read_parallel_bars, cond_reg_of, condition_on, read_condition, read_word, read_unit, is_dotted, read_head};
 
 use crate::lexeme::Lexeme;
 use crate::punctuator::Punctuator;
@@ -124,6 +124,12 @@ fn read_unit<'t>(class: WordClass, lexemes: &'t [Lexeme]) -> Option<(Option<Word
     }
 }
 
+fn is_dotted(class: WordClass) -> bool
+    ensures { result ≡ is_dotted class }
+{
+    matches!(class, WordClass::Dotted)
+}
+
 /// What stands before the operands.
 #[tactic(auto, unfolding(crate::specs::Grammar::read_head))]
 pub fn read_head<'t>(lexemes: &'t [Lexeme]) -> Option<(StatementHead, Remaining<'t>)>
@@ -134,7 +140,7 @@ pub fn read_head<'t>(lexemes: &'t [Lexeme]) -> Option<(StatementHead, Remaining<
     let (word, rest) = read_word(rest.lexemes())?;
     let (unit, rest) = read_unit(word.class, rest.lexemes())?;
     let marked = chained || condition != Cond::Always;
-    if word.class == WordClass::Dotted && marked {
+    if is_dotted(word.class) && marked {
         return None;
     }
     Some((

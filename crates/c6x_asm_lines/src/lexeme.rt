@@ -2,7 +2,7 @@ use crate::punctuator::Punctuator;
 use crate::word::Word;
 
 /// A token of one line with what it stands for.
-#[derive(Debug, Clone, Copy, PartialEq, Eq)]
+#[derive(Clone, Copy)]
 pub enum Lexeme {
     Word(Word),
     /// None where it is above 4,294,967,295.

@@ -4,14 +4,14 @@ use crate::word::Word;
 use c6x_base::Row;
 
 /// An instruction or a directive.
-#[derive(Debug, Drop)]
+#[derive(Drop)]
 pub struct Statement {
     pub head: StatementHead,
     pub operands: Row<Operand>,
 }
 
 /// A line: a label, then an instruction or a directive, each if there is one.
-#[derive(Debug, Drop)]
+#[derive(Drop)]
 pub struct Line {
     pub label: Option<Word>,
     pub statement: Option<Statement>,

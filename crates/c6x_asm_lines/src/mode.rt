@@ -1,5 +1,5 @@
 /// How an address goes from its base (SPRU732, "Addressing Modes").
-#[derive(Debug, Clone, Copy, PartialEq, Eq)]
+#[derive(Clone, Copy)]
 pub enum Mode {
     /// `*-R`
     Negative,

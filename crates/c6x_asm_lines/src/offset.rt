@@ -1,7 +1,7 @@
 use crate::value::Value;
 
 /// What stands behind the base of an address.
-#[derive(Debug, Clone, Copy, PartialEq, Eq)]
+#[derive(Clone, Copy)]
 pub enum Offset {
     Missing,
     Bracket(Value),

@@ -3,7 +3,7 @@ use crate::register::Register;
 use crate::word::Word;
 
 /// An operand without a named kind.
-#[derive(Debug, Clone, Copy, PartialEq, Eq)]
+#[derive(Clone, Copy)]
 pub enum Primary {
     Register(Register),
     Number(Number),

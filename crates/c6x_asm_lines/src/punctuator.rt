@@ -1,5 +1,5 @@
 /// A sign of the text.
-#[derive(Debug, Clone, Copy, PartialEq, Eq)]
+#[derive(Clone, Copy)]
 pub enum Punctuator {
     Colon,
     Comma,

@@ -4,7 +4,7 @@ use crate::lexeme::Lexeme;
 use std::marker::Model;
 
 /// What is left of a line.
-#[derive(Debug, Drop)]
+#[derive(Drop)]
 pub struct Remaining<'t> {
     lexemes: &'t [Lexeme],
 }

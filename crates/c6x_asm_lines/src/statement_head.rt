@@ -2,7 +2,7 @@ use crate::word::Word;
 use c6x_instr::Cond;
 
 /// What stands before the operands of an instruction or a directive.
-#[derive(Debug, Clone, Copy, PartialEq, Eq)]
+#[derive(Clone, Copy)]
 pub struct StatementHead {
     /// `||` stands before it.
     pub chained: bool,

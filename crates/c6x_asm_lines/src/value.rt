@@ -2,7 +2,7 @@ use crate::primary::Primary;
 use crate::word::Word;
 
 /// An operand that is no address and no text.
-#[derive(Debug, Clone, Copy, PartialEq, Eq)]
+#[derive(Clone, Copy)]
 pub enum Value {
     Primary(Primary),
     /// `%kind(operand)`, or `%kind` alone.

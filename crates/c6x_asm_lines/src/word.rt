@@ -1,7 +1,7 @@
 use crate::register::Register;
 
 /// What the grammar asks of a word.
-#[derive(Debug, Clone, Copy, PartialEq, Eq)]
+#[derive(Clone, Copy)]
 pub enum WordClass {
     Register(Register),
     /// It begins with a dot.
@@ -12,7 +12,7 @@ pub enum WordClass {
 }
 
 /// A word of the text.
-#[derive(Debug, Clone, Copy, PartialEq, Eq)]
+#[derive(Clone, Copy)]
 pub struct Word {
     /// The offset of its first byte.
     pub at: u32,

@@ -4,7 +4,7 @@ use crate::reloc_entry::RelocEntry;
 use crate::section_kind::SectionKind;
 
 /// A section as the lines so far make it.
-#[derive(Debug, Drop)]
+#[derive(Drop)]
 pub struct AsmSection {
     /// The offset of its name in the text.
     pub at: u32,

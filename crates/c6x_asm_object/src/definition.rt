@@ -1,5 +1,5 @@
 /// Where a symbol is: its section's number, its value and its size.
-#[derive(Debug, Clone, Copy, PartialEq, Eq)]
+#[derive(Clone, Copy)]
 pub struct Definition {
     pub section: usize,
     pub value: u32,

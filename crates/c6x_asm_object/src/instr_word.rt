@@ -1,5 +1,5 @@
 /// An instruction of a section.
-#[derive(Debug, Clone, Copy, PartialEq, Eq)]
+#[derive(Clone, Copy)]
 pub struct InstrWord {
     /// The line that it stands on.
     pub line: u32,

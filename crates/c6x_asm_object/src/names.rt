@@ -6,7 +6,7 @@ use std::alloc::{AllocError, Global};
 use std::marker::Model;
 
 /// Names, each once, in order of first appearance. Contracts see the list of them.
-#[derive(Debug, Drop)]
+#[derive(Drop)]
 pub struct Names<'a> {
     slices: IndexSet<&'a [u8]>,
 }

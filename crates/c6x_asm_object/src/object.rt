@@ -7,7 +7,7 @@ use crate::symbols::Symbols;
 use std::alloc::Global;
 
 /// The sections and symbols that the lines so far make.
-#[derive(Debug, Drop)]
+#[derive(Drop)]
 pub struct Object<'a> {
     pub sections: Vec<AsmSection>,
     /// The name of each section, so that one is found without a walk.

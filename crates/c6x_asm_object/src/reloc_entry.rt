@@ -1,7 +1,7 @@
 use c6x_reloc::RelocKind;
 
 /// A relocation of a section.
-#[derive(Debug, Clone, Copy, PartialEq, Eq)]
+#[derive(Clone, Copy)]
 pub struct RelocEntry {
     pub offset: u32,
     pub kind: RelocKind,

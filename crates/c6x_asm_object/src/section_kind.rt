@@ -1,5 +1,5 @@
 /// What a section holds, by its name.
-#[derive(Debug, Clone, Copy, PartialEq, Eq)]
+#[derive(Clone, Copy)]
 pub enum SectionKind {
     /// Code.
     Text,

@@ -1,7 +1,7 @@
 use crate::definition::Definition;
 
 /// A name of the text.
-#[derive(Debug, Clone, Copy, PartialEq, Eq)]
+#[derive(Clone, Copy)]
 pub struct Symbol {
     /// The offset of its first appearance in the text.
     pub at: u32,

@@ -6,7 +6,7 @@ use crate::symbol::Symbol;
 use std::alloc::Global;
 
 /// The names of a text with what is said of them, in order of first appearance.
-#[derive(Debug, Drop)]
+#[derive(Drop)]
 pub struct Symbols<'a> {
     pub list: Vec<Symbol>,
     /// The name of each, so that one is found without a walk.

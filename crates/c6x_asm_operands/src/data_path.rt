@@ -1,7 +1,7 @@
 use c6x_base::Side;
 
 /// What follows the side in the word of a unit.
-#[derive(Debug, Clone, Copy, PartialEq, Eq)]
+#[derive(Clone, Copy)]
 pub enum DataPath {
     Own,
     /// `X`: the second operand is on the other side.

@@ -1,7 +1,7 @@
 use c6x_instr::{Access, Arith, MoveKind};
 
 /// The mnemonic of an instruction.
-#[derive(Debug, Clone, Copy, PartialEq, Eq)]
+#[derive(Clone, Copy)]
 pub enum Mnemonic {
     Two(Arith),
     Move(MoveKind),

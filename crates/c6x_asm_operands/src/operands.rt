@@ -8,7 +8,7 @@ use crate::numbers::number_in;
 use crate::range::Range;
 use crate::relocatable::Field;
 use crate::relocation::Relocation;
-use c6x_asm_lines::{AsmRule, Number, Operand, Primary, Register, Value, Word};
+use c6x_asm_lines::{AsmRule, bytes_at, Number, Operand, Primary, Register, Value, Word};
 use c6x_base::Side;
 use c6x_reloc::{RelocKind, width};
 

@@ -1,7 +1,7 @@
 use crate::relocation::Relocation;
 
 /// Where a load or a store is, as its word says it.
-#[derive(Debug, Clone, Copy, PartialEq, Eq)]
+#[derive(Clone, Copy)]
 pub enum Place {
     Short {
         mode: u8,

@@ -1,5 +1,5 @@
 /// Which numbers an operand may be.
-#[derive(Debug, Clone, Copy, PartialEq, Eq)]
+#[derive(Clone, Copy)]
 pub struct Range {
     /// How far below zero it may be.
     pub below: u32,

@@ -2,14 +2,14 @@ use crate::relocation::Relocation;
 use c6x_instr::Op;
 
 /// The bits of a field and the relocation that is to fill them in.
-#[derive(Debug, Clone, Copy, PartialEq, Eq)]
+#[derive(Clone, Copy)]
 pub struct Field {
     pub bits: u32,
     pub relocation: Option<Relocation>,
 }
 
 /// What an instruction does, and the relocation of its field.
-#[derive(Debug, Clone, Copy, PartialEq, Eq)]
+#[derive(Clone, Copy)]
 pub struct RelocatableOp {
     pub op: Op,
     pub relocation: Option<Relocation>,

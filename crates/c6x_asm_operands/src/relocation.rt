@@ -2,7 +2,7 @@ use c6x_asm_lines::Word;
 use c6x_reloc::RelocKind;
 
 /// A relocation that an expression makes.
-#[derive(Debug, Clone, Copy, PartialEq, Eq)]
+#[derive(Clone, Copy)]
 pub struct Relocation {
     pub kind: RelocKind,
     /// None for the null symbol.

@@ -3,7 +3,7 @@ use c6x_base::Side;
 use c6x_instr::UnitKind;
 
 /// A functional unit as a line names it.
-#[derive(Debug, Clone, Copy, PartialEq, Eq)]
+#[derive(Clone, Copy)]
 pub struct Unit {
     pub kind: UnitKind,
     pub side: Side,

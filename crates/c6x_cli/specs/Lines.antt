@@ -1,6 +1,5 @@
 use Rattle.std.specs.Prelude.{ℕ, List, ◌++◌, codes, decimal}
-use Rattle.c6x_asm_lines.specs.declared.rule.AsmRule.{AsmRule}
-use Rattle.c6x_asm_lines.specs.declared.rule.AsmRule.TheVariants.{BadByte, Syntax, UnknownWord, Operand, Range, Packet, DuplicateLabel, NoSection, Large as LargeText}
+use Rattle.c6x_asm.specs.AsmRule.{AsmRule, BadByte, Syntax, UnknownWord, Operand, Range, Packet, DuplicateLabel, NoSection, Large as LargeText}
 use Rattle.c6x_elf_headers.specs.declared.elf_rule.ElfRule.{ElfRule}
 use Rattle.c6x_elf_headers.specs.declared.elf_rule.ElfRule.TheVariants.{Short, Magic, Class, Data, Version, Machine, FileType, EntrySize, Index, NoNul, Large}
 use Rattle.c6x_cli.specs.declared.cause.Rule.{Rule}
