@@ -1,6 +1,7 @@
 -- A directive with its operands: this project's own.
 use Rattle.std.specs.Prelude.{ℕ, ◌+◌, ◌^◌, nat_le, nat_lt, ◌==◌, Bool, true, false, ◌&&◌, ◌||◌, if◌then◌else◌, List, [], ◌∷◌, ◌++◌, length, Option, Some, None, Result, Ok, Err, slice_range, bit_and, ◌-◌}
 use Rattle.std.specs.List.{list_all}
+use Rattle.c6x_base.specs.declared.limits.TheConstants.{MOST_NAME_BYTES}
 use Rattle.c6x_reloc.specs.declared.reloc_kind.RelocKind.{RelocKind}
 use Rattle.c6x_reloc.specs.declared.reloc_kind.RelocKind.TheVariants.{ABS32}
 use Rattle.c6x_asm_lines.specs.declared.operand.Operand.{Operand}
@@ -30,7 +31,7 @@ abbrev pub is_visible : ℕ → Bool
 is_visible b = nat_le 33 b && nat_le b 126
 
 abbrev pub is_section_name : List ℕ → Bool
-is_section_name bytes = nat_le 1 (length bytes) && (nat_le (length bytes) 64 && list_all is_visible bytes)
+is_section_name bytes = nat_le 1 (length bytes) && (nat_le (length bytes) MOST_NAME_BYTES && list_all is_visible bytes)
 
 unfoldable pub section_named : List ℕ → Operand → Result Directive AsmRule
 section_named text (TextOperand at len) = if is_section_name (bytes_at text at len) then Ok (Section at len) else Err Syntax

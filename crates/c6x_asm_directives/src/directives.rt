@@ -11,6 +11,7 @@ use crate::symbol_attribute::SymbolAttribute;
 use c6x_asm_lines::{AsmRule, both, bytes_at, Operand, Primary, Value, Word};
 use c6x_asm_operands::{constant_operand, Range};
 use c6x_base::Row;
+use c6x_base::limits::MOST_NAME_BYTES;
 use std::alloc::{AllocError, Global};
 
 const ANY_NUMBER: Range = Range {
@@ -40,7 +41,7 @@ const VALUES: Range = Range {
 fn is_section_name(bytes: &[u8]) -> bool
     ensures { result ≡ is_section_name bytes.now }
 {
-    !bytes.is_empty() && (bytes.len() <= 64 && all_visible(bytes))
+    !bytes.is_empty() && (bytes.len() <= MOST_NAME_BYTES as usize && all_visible(bytes))
 }
 
 fn all_visible(bytes: &[u8]) -> bool

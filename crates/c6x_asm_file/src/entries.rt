@@ -5,7 +5,8 @@ ghost use Rattle.c6x_asm_file.specs.Names.{group};
 
 use crate::binding::{binding, is_in, definition_or_none, visibility};
 use c6x_asm_lines::bytes_at;
-use c6x_asm_object::{Items, Symbol};
+use c6x_asm_object::Symbol;
+use c6x_base::Row;
 use std::alloc::{AllocError, Global};
 
 // The numbers of an entry but for the name.
@@ -19,7 +20,7 @@ struct SymbolEntry {
 }
 
 #[tactic(auto, using(crate::proofs::Names::row_put))]
-fn put_entry(bytes: &mut Items<u8>, name: u32, entry: &SymbolEntry) -> Result<(), AllocError>
+fn put_entry(bytes: &mut Row<u8>, name: u32, entry: &SymbolEntry) -> Result<(), AllocError>
     ensures { OnOk result (bytes.new ≡ bytes.old ++ entry_row name entry.now.value entry.now.size entry.now.info entry.now.other entry.now.section) }
 {
     bytes.extend(&name.to_le_bytes())?;
@@ -29,7 +30,7 @@ fn put_entry(bytes: &mut Items<u8>, name: u32, entry: &SymbolEntry) -> Result<()
     bytes.extend(&((entry.section % 65_536) as u16).to_le_bytes())
 }
 
-fn put_symbol(bytes: &mut Items<u8>, name: u32, symbol: Symbol) -> Result<(), AllocError>
+fn put_symbol(bytes: &mut Row<u8>, name: u32, symbol: Symbol) -> Result<(), AllocError>
     ensures { OnOk result (bytes.new ≡ bytes.old ++ symbol_row name symbol) }
 {
     let definition = definition_or_none(symbol.definition);
@@ -48,7 +49,7 @@ fn put_symbol(bytes: &mut Items<u8>, name: u32, symbol: Symbol) -> Result<(), Al
 fn put_if(
     text: &[u8],
     local: bool,
-    bytes: &mut Items<u8>,
+    bytes: &mut Row<u8>,
     name: u32,
     symbol: Symbol,
 ) -> Result<u32, AllocError>
@@ -70,7 +71,7 @@ fn put_if(
 fn put_group(
     text: &[u8],
     local: bool,
-    bytes: &mut Items<u8>,
+    bytes: &mut Row<u8>,
     name: u32,
     symbols: &[Symbol],
 ) -> Result<u32, AllocError>
@@ -86,7 +87,7 @@ fn put_group(
 }
 
 #[tactic(auto, using(crate::proofs::Names::sections_at, crate::proofs::Names::sections_end))]
-fn put_sections(bytes: &mut Items<u8>, count: usize) -> Result<(), AllocError>
+fn put_sections(bytes: &mut Row<u8>, count: usize) -> Result<(), AllocError>
     requires { count < 2 ^ 32 }
     ensures { OnOk result (bytes.new ≡ bytes.old ++ section_rows 1 count) }
 {
@@ -110,12 +111,12 @@ pub fn symbol_table(
     text: &[u8],
     sections: usize,
     symbols: &[Symbol],
-) -> Result<Items<u8>, AllocError>
+) -> Result<Row<u8>, AllocError>
     requires few { sections < 2 ^ 32 }
     requires names { 1 + names_total text.now symbols.now < 2 ^ 32 }
     ensures { IfOk result (λ bytes. bytes ≡ symbol_table text.now sections symbols.now) }
 {
-    let mut bytes = Items::new(alloc);
+    let mut bytes = Row::new(alloc);
     let null = SymbolEntry {
         value: 0,
         size: 0,

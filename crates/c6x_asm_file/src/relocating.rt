@@ -2,7 +2,8 @@ ghost use Rattle.std.specs.Prelude.{◌≡◌, ◌++◌, IfOk, OnOk};
 ghost use Rattle.c6x_asm_form.specs.Relocations.{number_at, info_of, relocation_row, relocation_rows};
 
 use crate::kinds::kind_number;
-use c6x_asm_object::{RelocEntry, Items};
+use c6x_asm_object::RelocEntry;
+use c6x_base::Row;
 use std::alloc::{AllocError, Global};
 
 fn number_at(numbers: &[usize], symbol: Option<usize>) -> usize
@@ -21,7 +22,7 @@ fn info_of(symbol: usize, kind: u8) -> u32
 }
 
 #[tactic(auto, using(crate::proofs::Rows::row_put))]
-fn put_relocation(numbers: &[usize], bytes: &mut Items<u8>, entry: RelocEntry) -> Result<(), AllocError>
+fn put_relocation(numbers: &[usize], bytes: &mut Row<u8>, entry: RelocEntry) -> Result<(), AllocError>
     ensures { OnOk result (bytes.new ≡ bytes.old ++ relocation_row numbers.now entry) }
 {
     let info = info_of(number_at(numbers, entry.symbol), kind_number(entry.kind));
@@ -36,10 +37,10 @@ pub fn relocation_table(
     alloc: Global,
     numbers: &[usize],
     entries: &[RelocEntry],
-) -> Result<Items<u8>, AllocError>
+) -> Result<Row<u8>, AllocError>
     ensures { IfOk result (λ bytes. bytes ≡ relocation_rows numbers.now entries.now) }
 {
-    let mut bytes = Items::new(alloc);
+    let mut bytes = Row::new(alloc);
     for entry in entries {
         put_relocation(numbers, &mut bytes, *entry)?;
     }

@@ -2,7 +2,7 @@ ghost use Rattle.std.specs.Prelude.{◌≡◌, [], ◌∷◌, OnOk, IfOk};
 ghost use Rattle.c6x_asm_file.specs.Adding.{first_built, named, added, with_names};
 
 use crate::headers::{STRINGS, null_section, table_section};
-use c6x_asm_object::Items;
+use c6x_base::Row;
 use c6x_elf::Section;
 use std::alloc::{AllocError, Global};
 use std::marker::Model;
@@ -11,7 +11,7 @@ use std::marker::Model;
 #[derive(Drop)]
 pub struct SectionTable {
     sections: Vec<Section>,
-    names: Items<u8>,
+    names: Row<u8>,
 }
 
 impl Model for SectionTable {
@@ -32,7 +32,7 @@ impl SectionTable {
         sections
             .push(null_section(alloc)?)
             .map_err(AllocError::from)?;
-        let mut names = Items::new(alloc);
+        let mut names = Row::new(alloc);
         names.push(0)?;
         Ok(SectionTable { sections, names })
     }

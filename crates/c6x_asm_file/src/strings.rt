@@ -4,12 +4,13 @@ ghost use Rattle.c6x_asm_file.specs.Names.{group};
 
 use crate::binding::is_in;
 use c6x_asm_lines::bytes_at;
-use c6x_asm_object::{Items, Symbol};
+use c6x_asm_object::Symbol;
+use c6x_base::Row;
 use std::alloc::{AllocError, Global};
 
 // The name of a symbol with a zero byte, if it is of the group.
 #[tactic(auto, unfolding(crate::specs::Names::group))]
-fn put_if(text: &[u8], local: bool, bytes: &mut Items<u8>, symbol: Symbol) -> Result<(), AllocError>
+fn put_if(text: &[u8], local: bool, bytes: &mut Row<u8>, symbol: Symbol) -> Result<(), AllocError>
     ensures { OnOk result (bytes.new ≡ bytes.old ++ name_rows text.now (group local (symbol ∷ []))) }
 {
     if is_in(local, symbol) {
@@ -23,7 +24,7 @@ fn put_if(text: &[u8], local: bool, bytes: &mut Items<u8>, symbol: Symbol) -> Re
 fn put_names(
     text: &[u8],
     local: bool,
-    bytes: &mut Items<u8>,
+    bytes: &mut Row<u8>,
     symbols: &[Symbol],
 ) -> Result<(), AllocError>
     ensures { OnOk result (bytes.new ≡ bytes.old ++ name_rows text.now (group local symbols.now)) }
@@ -36,10 +37,10 @@ fn put_names(
 
 /// The names of the symbols: a zero byte, the local names, the others, a zero byte behind each.
 #[tactic(auto, using(crate::proofs::Names::names_put))]
-pub fn name_table(alloc: Global, text: &[u8], symbols: &[Symbol]) -> Result<Items<u8>, AllocError>
+pub fn name_table(alloc: Global, text: &[u8], symbols: &[Symbol]) -> Result<Row<u8>, AllocError>
     ensures { IfOk result (λ bytes. bytes ≡ name_table text.now symbols.now) }
 {
-    let mut bytes = Items::new(alloc);
+    let mut bytes = Row::new(alloc);
     bytes.push(0)?;
     put_names(text, true, &mut bytes, symbols)?;
     put_names(text, false, &mut bytes, symbols)?;

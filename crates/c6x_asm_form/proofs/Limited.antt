@@ -3,7 +3,7 @@ use Rattle.std.proofs.Common.{◌≡◌, ℕ, ◌+◌, ◌*◌, ◌%◌, ◌≤�
 use Rattle.std.specs.List.{list_any}
 use Rattle.std.proofs.lemmas.Bool.Decides.{nat_tests}
 use Rattle.std.proofs.lemmas.List.Sums.{sum_by-cons}
-use Rattle.c6x_base.specs.Rounded.{rounded}
+use Rattle.c6x_spec.specs.Rounded.{rounded}
 use Rattle.c6x_elf.specs.Form.{IsSized, section_length}
 use Rattle.c6x_elf.specs.Parts.{has_bytes, section_size}
 use Rattle.c6x_elf.specs.Writing.{offset_end, offsets_end, section_head_at, sections_end, segments_end, written_size}

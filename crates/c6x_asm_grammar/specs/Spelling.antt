@@ -1,5 +1,6 @@
 -- Which lexemes spell which line (docs/ASSEMBLY.md): one relation a category, one constructor a form.
 use Rattle.std.specs.Prelude.{◌≢◌, ◌≡◌, ℕ, ◌≤◌, Bool, true, false, not, List, [], ◌∷◌, ◌++◌, map, Option, Some, None}
+use Rattle.c6x_base.specs.declared.limits.TheConstants.{MOST_NAME_BYTES}
 use Rattle.c6x_base.specs.declared.side.Side.TheVariants.{A, B}
 use Rattle.c6x_instr.specs.declared.cond.Cond.{Cond}
 use Rattle.c6x_instr.specs.declared.cond.Cond.TheVariants.{Always, If}
@@ -31,7 +32,7 @@ use Rattle.c6x_asm_lines.specs.declared.word.WordClass.TheVariants.{Register as 
 -- "Lines": a name is a word of at most 64 bytes that is no register
 pub record IsName (word : Word) : Type 0 where
   pub free : (register : Register) → word.class ≢ RegisterClass register
-  pub short : word.len ≤ 64
+  pub short : word.len ≤ MOST_NAME_BYTES
 
 abbrev pub opposite : Number → Number
 opposite n = record { negative = not n.negative; size = n.size }

@@ -6,7 +6,7 @@ use Rattle.std.proofs.lemmas.Bool.{cases_lt}
 use Rattle.std.proofs.lemmas.Bool.Decides.{nat_tests}
 use Rattle.std.proofs.lemmas.List.{length-map}
 use Rattle.std.proofs.lemmas.List.Folds.{list_any-append}
-use Rattle.c6x_base.specs.Rounded.{rounded}
+use Rattle.c6x_spec.specs.Rounded.{rounded}
 use Rattle.c6x_elf.specs.Parts.{has_bytes}
 use Rattle.c6x_elf.specs.Writing.{offset_end, offsets_end, written_size}
 use Rattle.c6x_asm_object.specs.declared.asm_section.AsmSection.{AsmSection}

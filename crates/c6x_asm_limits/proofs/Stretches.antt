@@ -5,8 +5,8 @@ use Rattle.std.specs.Option.{option_and_then}
 use Rattle.std.proofs.Math.Nat.{le_antisymm, mul-add-div_right, mod-eq-sub-div-mul, div-mul-le_self}
 use Rattle.std.proofs.lemmas.Bool.Decides.{nat_tests}
 use Rattle.std.proofs.lemmas.Option.{IfSome_then}
-use Rattle.c6x_base.specs.Rounded.{IsRounded, rounded}
-use Rattle.c6x_base.proofs.RoundedUp.{rounded_is_least}
+use Rattle.c6x_spec.specs.Rounded.{IsRounded, rounded}
+use Rattle.c6x_spec.proofs.RoundedUp.{rounded_is_least}
 use Rattle.c6x_asm_object.specs.declared.asm_section.AsmSection.{AsmSection}
 use Rattle.c6x_asm_limits.specs.declared.stretch.Stretch.{Stretch}
 use Rattle.c6x_asm_limits.specs.Places.{Ends, Reaches, both, empty_stretch, end_of, is_stored, kept, section_end, section_stretch, sections_end, place_behind, small, small_end}

@@ -1,6 +1,7 @@
 -- Whether the object of sections passes a limit, by their sums and the place where they end.
 use Rattle.std.specs.Prelude.{ℕ, ◌+◌, ◌*◌, nat_lt, Bool, ◌||◌}
-use Rattle.c6x_base.specs.Rounded.{rounded}
+use Rattle.c6x_base.specs.declared.limits.TheConstants.{MOST_FILE_BYTES, MOST_SECTIONS}
+use Rattle.c6x_spec.specs.Rounded.{rounded}
 use Rattle.c6x_asm_limits.specs.declared.summary.Summary.{Summary}
 use Rattle.c6x_asm_limits.specs.Sums.{is_past}
 
@@ -29,5 +30,5 @@ has_long sections symbols names s =
 
 unfoldable pub passes : ℕ → ℕ → ℕ → ℕ → Summary → Bool
 passes at sections symbols names s =
-    nat_lt 4096 (section_count sections s.tables)
-    || (has_long sections symbols names s || nat_lt 4194304 (whole_size at sections symbols names s))
+    nat_lt MOST_SECTIONS (section_count sections s.tables)
+    || (has_long sections symbols names s || nat_lt MOST_FILE_BYTES (whole_size at sections symbols names s))

@@ -1,7 +1,8 @@
 -- Where the sections of a text end in the written form of their object, and what a stretch of them does to a place.
 use Rattle.std.specs.Prelude.{◌≡◌, ℕ, ◌+◌, ◌%◌, ◌^◌, ◌==◌, ◌<◌, max, nat_lt, not, Bool, if◌then◌else◌, List, [], ◌∷◌, length, Option, Some, None, IfSome}
 use Rattle.std.specs.Option.{option_and_then}
-use Rattle.c6x_base.specs.Rounded.{rounded}
+use Rattle.c6x_base.specs.declared.limits.TheConstants.{MOST_FILE_BYTES}
+use Rattle.c6x_spec.specs.Rounded.{rounded}
 use Rattle.c6x_asm_object.specs.declared.asm_section.AsmSection.{AsmSection}
 use Rattle.c6x_asm_object.specs.declared.section_kind.SectionKind.{SectionKind}
 use Rattle.c6x_asm_object.specs.Sections.{is_zero}
@@ -23,7 +24,7 @@ sections_end at (p ∷ sections) = sections_end (section_end at p) sections
 
 -- no place past the most bytes of a file
 abbrev pub small : ℕ → Option ℕ
-small at = if nat_lt 4194304 at then None else Some at
+small at = if nat_lt MOST_FILE_BYTES at then None else Some at
 
 -- behind sections, if that and each place before it is small
 abbrev pub small_end : ℕ → List AsmSection → Option ℕ
@@ -60,5 +61,5 @@ Reaches stretch sections = IfSome stretch (λ s. (at : ℕ) → sections_end at 
 
 -- where sections that begin at `at` end, or that it is past the most bytes of a file
 abbrev pub Ends : ℕ → Option ℕ → List AsmSection → Type 0
-Ends at None sections = 4194304 < sections_end at sections
+Ends at None sections = MOST_FILE_BYTES < sections_end at sections
 Ends at (Some end) sections = end ≡ sections_end at sections

@@ -5,13 +5,11 @@ ghost use Rattle.c6x_asm_limits.specs.Passing.{has_long, passes, symbol_bytes, w
 ghost use Rattle.c6x_asm_limits.specs.Sums.{AreBlocks};
 
 use crate::outline::Outline;
-use crate::placing::{MOST_BYTES, end};
+use crate::placing::end;
 use crate::summary::Summary;
 use crate::summing::is_past;
 use c6x_asm_object::{AsmSection, Symbol};
-
-// The most sections.
-const MOST_SECTIONS: u128 = 4_096;
+use c6x_base::limits::{MOST_FILE_BYTES, MOST_SECTIONS};
 
 // The bytes of `.symtab`: the null symbol, the sections and the names.
 fn symbol_bytes(sections: usize, symbols: usize) -> u128
@@ -46,9 +44,9 @@ fn whole_size(at: u64, sections: usize, symbols: usize, names: usize, sum: Summa
 fn passes(at: u64, sections: usize, symbols: usize, names: usize, sum: Summary) -> bool
     ensures { result ≡ passes at sections symbols names sum }
 {
-    sections as u128 + u128::from(sum.tables) + 4 > MOST_SECTIONS
+    sections as u128 + u128::from(sum.tables) + 4 > u128::from(MOST_SECTIONS)
         || has_long(sections, symbols, names, sum)
-        || whole_size(at, sections, symbols, names, sum) > u128::from(MOST_BYTES)
+        || whole_size(at, sections, symbols, names, sum) > u128::from(MOST_FILE_BYTES)
 }
 
 /// Whether the object of these sections and symbols of a text passes a limit; `names` is the number of bytes of the

@@ -1,23 +1,10 @@
 ghost use Rattle.std.specs.Prelude.{◌≡◌, ℕ, ◌+◌, ◌<◌, ◌^◌, ◌≤◌, max, length, Some, IfSome};
-ghost use Rattle.c6x_base.specs.Rounded.{rounded};
 ghost use Rattle.c6x_asm_limits.specs.Places.{Ends, Reaches, both, end_of, is_stored, kept, section_end, section_stretch, small, small_end};
 
 use crate::stretch::Stretch;
 use c6x_asm_object::{AsmSection, SectionKind};
-
-/// The most bytes of a file.
-pub const MOST_BYTES: u64 = 4_194_304;
-
-// The least multiple of `align` from a place on.
-fn rounded(at: u64, align: u32) -> u64
-    requires small { at < 2 ^ 34 }
-    requires some { 1 ≤ align }
-    ensures place { result ≡ rounded at align }
-    ensures small { result < 2 ^ 35 }
-{
-    let align = u64::from(align);
-    (at + (align - 1)) / align * align
-}
+use c6x_base::least_multiple;
+use c6x_base::limits::MOST_FILE_BYTES;
 
 fn is_stored(kind: SectionKind) -> bool
     ensures { result ≡ is_stored kind }
@@ -64,7 +51,7 @@ pub fn both(a: Stretch, b: Stretch) -> Option<Stretch>
     let between = u64::from(a.behind) + u64::from(b.ahead);
     if second % first == 0 {
         kept(
-            u64::from(a.ahead) + rounded(between, first),
+            u64::from(a.ahead) + least_multiple(between, first),
             b.align,
             u64::from(b.behind),
         )
@@ -72,7 +59,7 @@ pub fn both(a: Stretch, b: Stretch) -> Option<Stretch>
         kept(
             u64::from(a.ahead),
             a.align,
-            rounded(between, second) + u64::from(b.behind),
+            least_multiple(between, second) + u64::from(b.behind),
         )
     } else {
         None
@@ -84,7 +71,7 @@ pub fn both(a: Stretch, b: Stretch) -> Option<Stretch>
 fn end_of(s: Stretch, at: u32) -> u64
     ensures { result ≡ end_of s at }
 {
-    rounded(u64::from(at) + u64::from(s.ahead), s.align.max(1)) + u64::from(s.behind)
+    least_multiple(u64::from(at) + u64::from(s.ahead), s.align.max(1)) + u64::from(s.behind)
 }
 
 // No place past the most bytes of a file.
@@ -92,7 +79,7 @@ fn small(at: u64) -> Option<u64>
     ensures is { result ≡ small at }
     ensures few { IfSome result (λ end. end ≤ 4194304) }
 {
-    if at > MOST_BYTES { None } else { Some(at) }
+    if at > u64::from(MOST_FILE_BYTES) { None } else { Some(at) }
 }
 
 #[tactic(auto, unfolding(crate::specs::Places::place_behind))]
@@ -101,7 +88,7 @@ fn section_end(at: u64, section: &AsmSection) -> u64
     ensures { result ≡ section_end at section.now }
 {
     if is_stored(section.kind) {
-        rounded(at, section.align.max(1)) + section.bytes.as_slice().len() as u64
+        least_multiple(at, section.align.max(1)) + section.bytes.as_slice().len() as u64
     } else {
         at
     }

@@ -1,6 +1,7 @@
 use Rattle.std.specs.Prelude.{ℕ, nat_le, Bool, true, false, not, ◌||◌, ◌&&◌, ◌==◌, if◌then◌else◌, List, [], ◌∷◌, Option, Some, None}
 use Rattle.std.specs.List.{slice_split}
 use Rattle.c6x_spec.specs.Options.{◌>>=◌}
+use Rattle.c6x_base.specs.declared.limits.TheConstants.{MOST_NAME_BYTES}
 use Rattle.c6x_base.specs.declared.side.Side.{Side}
 use Rattle.c6x_base.specs.declared.side.Side.TheVariants.{A, B}
 use Rattle.c6x_instr.specs.declared.cond.Cond.{Cond}
@@ -51,7 +52,7 @@ read_addend (Punctuated Minus ∷ rest) = read_number rest >>= λ n. Some (Some 
 read_addend rest = Some (None, rest)
 
 abbrev pub read_symbol : Word → List Lexeme → Read Primary
-read_symbol name rest = if nat_le name.len 64 then (read_addend rest >>= λ a. Some (PrimarySymbol name a.0, a.1)) else None
+read_symbol name rest = if nat_le name.len MOST_NAME_BYTES then (read_addend rest >>= λ a. Some (PrimarySymbol name a.0, a.1)) else None
 
 abbrev pub read_worded : WordClass → Word → List Lexeme → Read Primary
 read_worded (RegisterClass register) word rest = Some (PrimaryRegister register, rest)
@@ -86,7 +87,7 @@ read_modifier rest = (Unmodified, rest)
 
 abbrev pub base_of : WordClass → Word → Option (Option Register)
 base_of (RegisterClass register) word = Some (Some register)
-base_of _ word = if nat_le word.len 64 then Some None else None
+base_of _ word = if nat_le word.len MOST_NAME_BYTES then Some None else None
 
 -- the base of an address, which is a name where it is no register
 abbrev pub read_base : List Lexeme → Read (Option Register)
@@ -151,7 +152,7 @@ operands_of (x ∷ xs) = all_operands (slice_split is_comma (x ∷ xs))
 -- whether a word names a label or a symbol: it is no register and has at most 64 bytes
 abbrev pub is_name : WordClass → Word → Bool
 is_name (RegisterClass register) word = false
-is_name _ word = nat_le word.len 64
+is_name _ word = nat_le word.len MOST_NAME_BYTES
 
 unfoldable pub read_label : List Lexeme → Read (Option Word)
 read_label (Worded word ∷ Punctuated Colon ∷ rest) = if is_name word.class word then Some (Some word, rest) else None

@@ -11,6 +11,7 @@ use crate::punctuator::Punctuator;
 use crate::register::Register;
 use crate::remaining::Remaining;
 use crate::word::WordClass;
+use c6x_base::limits::MOST_NAME_BYTES;
 
 fn read_modifier<'t>(lexemes: &'t [Lexeme]) -> (BaseModifier, Remaining<'t>)
     ensures { result ≡ read_modifier lexemes.now }
@@ -39,7 +40,7 @@ fn read_base<'t>(lexemes: &'t [Lexeme]) -> Option<(Option<Register>, Remaining<'
         [Lexeme::Word(word), rest @ ..] => match word.class {
             WordClass::Register(register) => Some((Some(register), Remaining::of(rest))),
             _ => {
-                if word.len > 64 {
+                if word.len > MOST_NAME_BYTES {
                     return None;
                 }
                 Some((None, Remaining::of(rest)))

@@ -8,6 +8,7 @@ use crate::remaining::Remaining;
 use crate::statement_head::StatementHead;
 use crate::word::{Word, WordClass};
 use c6x_base::Side;
+use c6x_base::limits::MOST_NAME_BYTES;
 use c6x_instr::{Cond, CondReg};
 
 fn is_name(word: Word) -> bool
@@ -15,7 +16,7 @@ fn is_name(word: Word) -> bool
 {
     match word.class {
         WordClass::Register(_) => false,
-        _ => word.len <= 64,
+        _ => word.len <= MOST_NAME_BYTES,
     }
 }
 

@@ -8,6 +8,7 @@ use crate::punctuator::Punctuator;
 use crate::remaining::Remaining;
 use crate::value::Value;
 use crate::word::WordClass;
+use c6x_base::limits::MOST_NAME_BYTES;
 
 fn read_number<'t>(lexemes: &'t [Lexeme]) -> Option<(Number, Remaining<'t>)>
     ensures { result ≡ read_number lexemes.now }
@@ -61,7 +62,7 @@ fn read_primary<'t>(lexemes: &'t [Lexeme]) -> Option<(Primary, Remaining<'t>)>
         [Lexeme::Word(word), rest @ ..] => match word.class {
             WordClass::Register(register) => Some((Primary::Register(register), Remaining::of(rest))),
             _ => {
-                if word.len > 64 {
+                if word.len > MOST_NAME_BYTES {
                     return None;
                 }
                 let (addend, rest) = read_addend(rest)?;

@@ -1,3 +1,2 @@
-pub mod Zeros
 pub mod Finding
 pub mod Kept

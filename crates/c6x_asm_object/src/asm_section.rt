@@ -1,5 +1,5 @@
 use crate::instr_word::InstrWord;
-use crate::items::Items;
+use c6x_base::Row;
 use crate::reloc_entry::RelocEntry;
 use crate::section_kind::SectionKind;
 
@@ -14,9 +14,9 @@ pub struct AsmSection {
     pub align: u32,
     pub size: u32,
     /// Its bytes; none for a section of zeros.
-    pub bytes: Items<u8>,
-    pub entries: Items<RelocEntry>,
-    pub instructions: Items<InstrWord>,
+    pub bytes: Row<u8>,
+    pub entries: Row<RelocEntry>,
+    pub instructions: Row<InstrWord>,
     /// Where its last instruction ends.
     pub last: Option<u32>,
 }

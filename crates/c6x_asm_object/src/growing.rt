@@ -3,7 +3,7 @@ ghost use Rattle.c6x_asm_object.specs.Sections.{empty_section, is_zero, with_byt
 
 use crate::asm_section::AsmSection;
 use crate::instr_word::InstrWord;
-use crate::items::Items;
+use c6x_base::Row;
 use crate::naming::first_align;
 use crate::reloc_entry::RelocEntry;
 use crate::section_kind::SectionKind;
@@ -20,9 +20,9 @@ pub fn empty_section(alloc: Global, at: u32, len: u32, kind: SectionKind) -> Asm
         kind,
         align: first_align(kind),
         size: 0,
-        bytes: Items::new(alloc),
-        entries: Items::new(alloc),
-        instructions: Items::new(alloc),
+        bytes: Row::new(alloc),
+        entries: Row::new(alloc),
+        instructions: Row::new(alloc),
         last: None,
     }
 }
