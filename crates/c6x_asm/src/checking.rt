@@ -25,7 +25,11 @@ pub fn first_bad(alloc: Global, instructions: &[InstrWord]) -> Result<Option<u32
         if !instruction.chained && !is_packet(alloc, words.as_slice())? {
             return Ok(Some(line));
         }
-        line = if instruction.chained { line } else { instruction.line };
+        line = if instruction.chained {
+            line
+        } else {
+            instruction.line
+        };
         join(&mut words, *instruction)?;
     }
     if is_packet(alloc, words.as_slice())? {

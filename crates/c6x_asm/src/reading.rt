@@ -11,7 +11,7 @@ use crate::checking::first_bad;
 use crate::running::{add_line, ends_in_newline, run};
 use c6x_asm_limits::Outline;
 use c6x_asm_lines::{AsmRule, Lexeme};
-use c6x_asm_object::{Object, AsmSection};
+use c6x_asm_object::{AsmSection, Object};
 use c6x_lex::{LexError, Token, lex};
 use std::alloc::{AllocError, Global};
 

@@ -2,8 +2,8 @@ ghost use Rattle.std.specs.Prelude.{◌≡◌, ◌++◌, ◌∷◌, [], ◌^◌,
 ghost use Rattle.c6x_asm_directives.specs.Directives.{number_field, sized_field, with_field, fields_from, fields_of};
 ghost use Rattle.c6x_asm_directives.specs.Fields.{sofar, IsFields};
 
-use c6x_asm_lines::{AsmRule, lower, Operand};
-use c6x_asm_operands::{constant_operand, Field, field_operand, Range};
+use c6x_asm_lines::{AsmRule, Operand, lower};
+use c6x_asm_operands::{Field, Range, constant_operand, field_operand};
 use c6x_reloc::RelocKind;
 use std::alloc::{AllocError, Global};
 

@@ -2,7 +2,7 @@ ghost use Rattle.std.specs.Prelude.{◌≡◌, None};
 ghost use Rattle.c6x_asm_directives.specs.Kinds.{stands_wrong, kind_fault, value_fault, offset_fault, operand_fault, kinds_from};
 ghost use Rattle.c6x_asm_lines.specs.Rules.{lowest};
 
-use c6x_asm_lines::{AsmRule, bytes_at, lowest, Offset, Operand, Primary, Value};
+use c6x_asm_lines::{AsmRule, Offset, Operand, Primary, Value, bytes_at, lowest};
 use c6x_asm_operands::kind_of;
 use c6x_reloc::RelocKind;
 
@@ -37,7 +37,10 @@ fn value_fault(text: &[u8], value: Value) -> Option<AsmRule>
 {
     match value {
         Value::Primary(_) => None,
-        Value::Kind { kind, inner } => kind_fault(kind_of(bytes_at(text, kind.at, kind.len)), inner),
+        Value::Kind { kind, inner } => kind_fault(
+            kind_of(bytes_at(text, kind.at, kind.len)),
+            inner,
+        ),
     }
 }
 

@@ -3,10 +3,11 @@ use Rattle.std.proofs.Common.{◌≡◌, ℕ, ◌+◌, ◌<◌, ◌≤◌, List,
 use Rattle.std.proofs.lemmas.List.{drop_more, drop_all}
 use Rattle.std.specs.Int.{to_le_bytes, w32}
 use Rattle.c6x_asm_object.specs.declared.reloc_entry.RelocEntry.{RelocEntry}
-use Rattle.c6x_asm_form.specs.Relocations.{kind_number, number_at, info_of, relocation_row, relocation_rows}
+use Rattle.c6x_reloc.specs.Table.{row_of}
+use Rattle.c6x_asm_form.specs.Relocations.{number_at, info_of, relocation_row, relocation_rows}
 
 -- a relocation behind the bytes so far, one number at a time
-pub row_put : (bytes numbers : List ℕ) (e : RelocEntry) → bytes ++ relocation_row numbers e ≡ bytes ++ to_le_bytes w32 e.offset ++ to_le_bytes w32 (info_of (number_at numbers e.symbol) (kind_number e.kind)) ++ to_le_bytes w32 e.addend
+pub row_put : (bytes numbers : List ℕ) (e : RelocEntry) → bytes ++ relocation_row numbers e ≡ bytes ++ to_le_bytes w32 e.offset ++ to_le_bytes w32 (info_of (number_at numbers e.symbol) (row_of e.kind).number) ++ to_le_bytes w32 e.addend
 unfolding relocation_row
 row_put bytes numbers e = simp (append_assoc {A = ℕ}) refl
 

@@ -86,5 +86,8 @@ pub fn count_relas(sections: &[AsmSection]) -> usize
     ensures is { result ≡ count_by has_entries sections.now }
     ensures few { result ≤ length sections.now }
 {
-    sections.iter().filter(|section| has_entries(section)).count()
+    sections
+        .iter()
+        .filter(|section| has_entries(section))
+        .count()
 }

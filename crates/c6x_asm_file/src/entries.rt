@@ -3,7 +3,7 @@ ghost use Rattle.c6x_asm_form.specs.Symbols.{entry_row, symbol_row, symbol_rows,
 ghost use Rattle.c6x_asm_object.specs.Symbols.{names_total};
 ghost use Rattle.c6x_asm_file.specs.Names.{group};
 
-use crate::binding::{binding, is_in, definition_or_none, visibility};
+use crate::binding::{binding, definition_or_none, is_in, visibility};
 use c6x_asm_lines::bytes_at;
 use c6x_asm_object::Symbol;
 use c6x_base::Row;

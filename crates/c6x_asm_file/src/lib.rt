@@ -6,7 +6,6 @@ mod binding;
 mod entries;
 mod filing;
 mod headers;
-mod kinds;
 mod numbering;
 mod relocating;
 mod section_table;

@@ -1,9 +1,9 @@
 ghost use Rattle.std.specs.Prelude.{◌≡◌, ◌++◌, IfOk, OnOk};
 ghost use Rattle.c6x_asm_form.specs.Relocations.{number_at, info_of, relocation_row, relocation_rows};
 
-use crate::kinds::kind_number;
 use c6x_asm_object::RelocEntry;
 use c6x_base::Row;
+use c6x_reloc::number_of;
 use std::alloc::{AllocError, Global};
 
 fn number_at(numbers: &[usize], symbol: Option<usize>) -> usize
@@ -22,10 +22,14 @@ fn info_of(symbol: usize, kind: u8) -> u32
 }
 
 #[tactic(auto, using(crate::proofs::Rows::row_put))]
-fn put_relocation(numbers: &[usize], bytes: &mut Row<u8>, entry: RelocEntry) -> Result<(), AllocError>
+fn put_relocation(
+    numbers: &[usize],
+    bytes: &mut Row<u8>,
+    entry: RelocEntry,
+) -> Result<(), AllocError>
     ensures { OnOk result (bytes.new ≡ bytes.old ++ relocation_row numbers.now entry) }
 {
-    let info = info_of(number_at(numbers, entry.symbol), kind_number(entry.kind));
+    let info = info_of(number_at(numbers, entry.symbol), number_of(entry.kind));
     bytes.extend(&entry.offset.to_le_bytes())?;
     bytes.extend(&info.to_le_bytes())?;
     bytes.extend(&entry.addend.to_le_bytes())

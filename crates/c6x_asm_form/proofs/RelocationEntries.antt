@@ -17,46 +17,16 @@ use Rattle.c6x_elf.specs.declared.section.Section.{Section}
 use Rattle.c6x_elf.proofs.Moves.{both_none}
 use Rattle.c6x_asm_object.specs.declared.reloc_entry.RelocEntry.{RelocEntry}
 use Rattle.c6x_asm_object.specs.declared.symbol.Symbol.{Symbol}
-use Rattle.c6x_reloc.specs.declared.reloc_kind.RelocKind.{RelocKind}
-use Rattle.c6x_reloc.specs.declared.reloc_kind.RelocKind.TheVariants.{NONE, ABS32, ABS16, ABS8, PCR_S21, PCR_S12, PCR_S7, ABS_S16, ABS_L16, ABS_H16, SBR_U15_B, SBR_U15_H, SBR_U15_W, SBR_S16, SBR_L16_B, SBR_L16_H, SBR_L16_W, SBR_H16_B, SBR_H16_H, SBR_H16_W, SBR_GOT_U15_W, SBR_GOT_L16_W, SBR_GOT_H16_W, DSBT_INDEX, JUMP_SLOT, ALIGN, FPHEAD, NOCMP}
+use Rattle.c6x_reloc.specs.Table.{row_of}
+use Rattle.c6x_reloc.proofs.KindNumbers.{number_small}
 use Rattle.c6x_asm_form.specs.Bindings.{is_local, is_other}
-use Rattle.c6x_asm_form.specs.Relocations.{info_of, kind_number, number_at, relocation_row, relocation_rows}
+use Rattle.c6x_asm_form.specs.Relocations.{info_of, number_at, relocation_row, relocation_rows}
 use Rattle.c6x_asm_object.specs.Sound.{IsEntrySound}
 use Rattle.c6x_asm_form.specs.Symbols.{symbol_number, symbol_numbers}
 use Rattle.c6x_asm_object.specs.Symbols.{no_symbol, symbol_of}
 use Rattle.c6x_asm_form.proofs.Lengths.{length-relocation_row, length-relocation_rows, locals_before, others_before}
 use Rattle.c6x_asm_form.proofs.Lists.{Each}
 use Rattle.c6x_asm_form.proofs.ReadBack.{word_read}
-
-kind_below : (kind : RelocKind) → kind_number kind < 256
-kind_below NONE = lit< tt
-kind_below ABS32 = lit< tt
-kind_below ABS16 = lit< tt
-kind_below ABS8 = lit< tt
-kind_below PCR_S21 = lit< tt
-kind_below PCR_S12 = lit< tt
-kind_below PCR_S7 = lit< tt
-kind_below ABS_S16 = lit< tt
-kind_below ABS_L16 = lit< tt
-kind_below ABS_H16 = lit< tt
-kind_below SBR_U15_B = lit< tt
-kind_below SBR_U15_H = lit< tt
-kind_below SBR_U15_W = lit< tt
-kind_below SBR_S16 = lit< tt
-kind_below SBR_L16_B = lit< tt
-kind_below SBR_L16_H = lit< tt
-kind_below SBR_L16_W = lit< tt
-kind_below SBR_H16_B = lit< tt
-kind_below SBR_H16_H = lit< tt
-kind_below SBR_H16_W = lit< tt
-kind_below SBR_GOT_U15_W = lit< tt
-kind_below SBR_GOT_L16_W = lit< tt
-kind_below SBR_GOT_H16_W = lit< tt
-kind_below DSBT_INDEX = lit< tt
-kind_below JUMP_SLOT = lit< tt
-kind_below ALIGN = lit< tt
-kind_below FPHEAD = lit< tt
-kind_below NOCMP = lit< tt
 
 -- the number of a symbol is one of the table's
 local_number : (t : Bool) (n before all others total : ℕ) → (t ≡ true → before < total) → (t ≡ false → all + others < total) → cond t (1 + n + before) (1 + n + all + others) < 1 + n + total
@@ -93,11 +63,11 @@ info_fits symbol kind below = omega arith
 info_symbol : (symbol kind : ℕ) → kind < 256 → info_of symbol kind / 256 ≤ symbol
 info_symbol symbol kind below = omega arith
 
-info_read : (table : List ℕ) (at : ℕ) (numbers : List ℕ) (e : RelocEntry) → Holds table at (relocation_row numbers e) → word_at false table (at + 4) ≡ info_of (number_at numbers e.symbol) (kind_number e.kind)
+info_read : (table : List ℕ) (at : ℕ) (numbers : List ℕ) (e : RelocEntry) → Holds table at (relocation_row numbers e) → word_at false table (at + 4) ≡ info_of (number_at numbers e.symbol) (row_of e.kind).number
 unfolding relocation_row
 info_read table at numbers e h =
-    let info = info_of (number_at numbers e.symbol) (kind_number e.kind) in
-    word_read table (at + 4) info (info_fits (number_at numbers e.symbol) (kind_number e.kind) (kind_below e.kind))
+    let info = info_of (number_at numbers e.symbol) (row_of e.kind).number in
+    word_read table (at + 4) info (info_fits (number_at numbers e.symbol) (row_of e.kind).number (number_small e.kind))
     (holds_left table (at + 4) (to_le_bytes w32 info) (to_le_bytes w32 e.addend)
     (holds_right table at (to_le_bytes w32 e.offset) (to_le_bytes w32 info ++ to_le_bytes w32 e.addend) (at + 4) h refl))
 
@@ -108,9 +78,9 @@ entry_passes : (all : List Section) (head : SectionHead) (table : List ℕ) (k :
 unfolding rela_refusal
 entry_passes all head table k numbers e h below =
     let number = number_at numbers e.symbol in
-    let reads : word_at false table (12 * k + 4) ≡ info_of number (kind_number e.kind) = info_read table (12 * k) numbers e h in
-    let least : info_of number (kind_number e.kind) / 256 ≤ number = info_symbol number (kind_number e.kind) (kind_below e.kind) in
-    let half : word_at false table (12 * k + 4) / 256 ≡ info_of number (kind_number e.kind) / 256 = ap (λ n. n / 256) reads in
+    let reads : word_at false table (12 * k + 4) ≡ info_of number (row_of e.kind).number = info_read table (12 * k) numbers e h in
+    let least : info_of number (row_of e.kind).number / 256 ≤ number = info_symbol number (row_of e.kind).number (number_small e.kind) in
+    let half : word_at false table (12 * k + 4) / 256 ≡ info_of number (row_of e.kind).number / 256 = ap (λ n. n / 256) reads in
     must_is (nat_lt (word_at false table (12 * k + 4) / 256) (symbols_in all head.link)) Index (head.offset + 12 * k + 4)
     (less_passes (word_at false table (12 * k + 4) / 256) _ (number) (symbols_in all head.link) half least below)
 

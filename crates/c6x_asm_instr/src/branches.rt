@@ -2,8 +2,10 @@ ghost use Rattle.std.specs.Prelude.{◌≡◌, ◌<◌, ◌≤◌, IfOk};
 ghost use Rattle.c6x_asm_instr.specs.Instructions.{is_register, target_register, takes_register, branch_of, branch_nop_of, link_register, callp_of, add_kpc_of, nop_of};
 
 use crate::units::is_cross;
-use c6x_asm_lines::{AsmRule, both, Operand, Primary, Value};
-use c6x_asm_operands::{constant_operand, field_operand, RelocatableOp, Range, register_operand, same_side, Unit};
+use c6x_asm_lines::{AsmRule, Operand, Primary, Value, both};
+use c6x_asm_operands::{
+    Range, RelocatableOp, Unit, constant_operand, field_operand, register_operand, same_side,
+};
 use c6x_base::Side;
 use c6x_instr::Op;
 use c6x_reloc::RelocKind;
@@ -112,7 +114,11 @@ pub fn branch_of(text: &[u8], unit: Unit, operands: &[Operand]) -> Result<Reloca
 }
 
 /// BNOP.
-pub fn branch_nop_of(text: &[u8], unit: Unit, operands: &[Operand]) -> Result<RelocatableOp, AsmRule>
+pub fn branch_nop_of(
+    text: &[u8],
+    unit: Unit,
+    operands: &[Operand],
+) -> Result<RelocatableOp, AsmRule>
     ensures { result ≡ branch_nop_of text.now unit operands.now }
 {
     match operands {

@@ -5,8 +5,8 @@ use crate::branches::{add_kpc_of, branch_nop_of, branch_of, callp_of, nop_of};
 use crate::memory::memory_on;
 use crate::operations::{move_of, two_of};
 use crate::units::{has_form, is_cross, is_d, is_own, is_s, names_value};
-use c6x_asm_lines::{AsmRule, bytes_at, StatementHead, Operand, Word};
-use c6x_asm_operands::{RelocatableOp, Mnemonic, mnemonic_of, same_side, Unit, unit_of};
+use c6x_asm_lines::{AsmRule, Operand, StatementHead, Word, bytes_at};
+use c6x_asm_operands::{Mnemonic, RelocatableOp, Unit, mnemonic_of, same_side, unit_of};
 use c6x_base::Side;
 use c6x_instr::Cond;
 
@@ -136,8 +136,17 @@ fn with_mnemonic(
 /// The operation that a line's words and operands name and the relocation of its field, or the
 /// lowest rule that they break.
 #[tactic(auto, unfolding(crate::specs::Instructions::instruction_of))]
-pub fn instruction_of(text: &[u8], head: StatementHead, operands: &[Operand]) -> Result<RelocatableOp, AsmRule>
+pub fn instruction_of(
+    text: &[u8],
+    head: StatementHead,
+    operands: &[Operand],
+) -> Result<RelocatableOp, AsmRule>
     ensures { result ≡ instruction_of text.now head operands.now }
 {
-    with_mnemonic(text, head, mnemonic_of(bytes_at(text, head.word.at, head.word.len)), operands)
+    with_mnemonic(
+        text,
+        head,
+        mnemonic_of(bytes_at(text, head.word.at, head.word.len)),
+        operands,
+    )
 }

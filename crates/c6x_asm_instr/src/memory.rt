@@ -2,8 +2,8 @@ ghost use Rattle.std.specs.Prelude.{◌≡◌, ◌≤◌};
 ghost use Rattle.c6x_instr.specs.Values.{size_of};
 ghost use Rattle.c6x_asm_instr.specs.Instructions.{is_store, memory_made, memory_with, memory_on};
 
-use c6x_asm_lines::{AsmRule, both, Operand};
-use c6x_asm_operands::{RelocatableOp, DataPath, Place, place_of, register_operand};
+use c6x_asm_lines::{AsmRule, Operand, both};
+use c6x_asm_operands::{DataPath, Place, RelocatableOp, place_of, register_operand};
 use c6x_base::Side;
 use c6x_instr::{Access, Op};
 

@@ -7,5 +7,6 @@ mod placing;
 mod stretch;
 mod summary;
 mod summing;
+
 pub use large::is_large;
 pub use outline::Outline;

@@ -49,7 +49,12 @@ impl Outline {
     }
 
     // The block of a section anew.
-    fn refresh(&mut self, text: &[u8], sections: &[AsmSection], place: usize) -> Result<(), AllocError>
+    fn refresh(
+        &mut self,
+        text: &[u8],
+        sections: &[AsmSection],
+        place: usize,
+    ) -> Result<(), AllocError>
         requires { place < length sections.now }
         ensures { OnOk result (self.new ≡ refreshed text.now sections.now self.old place) }
     {

@@ -79,7 +79,11 @@ fn small(at: u64) -> Option<u64>
     ensures is { result ≡ small at }
     ensures few { IfSome result (λ end. end ≤ 4194304) }
 {
-    if at > u64::from(MOST_FILE_BYTES) { None } else { Some(at) }
+    if at > u64::from(MOST_FILE_BYTES) {
+        None
+    } else {
+        Some(at)
+    }
 }
 
 #[tactic(auto, unfolding(crate::specs::Places::place_behind))]

@@ -22,13 +22,19 @@ fn read_modifier<'t>(lexemes: &'t [Lexeme]) -> (BaseModifier, Remaining<'t>)
             Lexeme::Punctuator(Punctuator::Plus),
             rest @ ..,
         ] => (BaseModifier::PlusPlus, Remaining::of(rest)),
-        [Lexeme::Punctuator(Punctuator::Plus), rest @ ..] => (BaseModifier::Plus, Remaining::of(rest)),
+        [Lexeme::Punctuator(Punctuator::Plus), rest @ ..] => (
+            BaseModifier::Plus,
+            Remaining::of(rest),
+        ),
         [
             Lexeme::Punctuator(Punctuator::Minus),
             Lexeme::Punctuator(Punctuator::Minus),
             rest @ ..,
         ] => (BaseModifier::MinusMinus, Remaining::of(rest)),
-        [Lexeme::Punctuator(Punctuator::Minus), rest @ ..] => (BaseModifier::Minus, Remaining::of(rest)),
+        [Lexeme::Punctuator(Punctuator::Minus), rest @ ..] => (
+            BaseModifier::Minus,
+            Remaining::of(rest),
+        ),
         _ => (BaseModifier::Unmodified, Remaining::of(lexemes)),
     }
 }
@@ -73,23 +79,29 @@ fn mode_of(before: BaseModifier, behind: BaseModifier, offset: Offset) -> Option
     ensures { result ≡ mode_of before behind offset }
 {
     match (before, behind, offset) {
-        (BaseModifier::Unmodified, BaseModifier::Unmodified, Offset::Missing) => Some(Mode::Positive),
-        (BaseModifier::Plus, BaseModifier::Unmodified, Offset::Bracket(_) | Offset::Parenthesis(_)) => Some(
+        (BaseModifier::Unmodified, BaseModifier::Unmodified, Offset::Missing) => Some(
             Mode::Positive,
         ),
+        (
+            BaseModifier::Plus,
+            BaseModifier::Unmodified,
+            Offset::Bracket(_) | Offset::Parenthesis(_),
+        ) => Some(Mode::Positive),
         (BaseModifier::Minus, BaseModifier::Unmodified, Offset::Bracket(_)) => Some(Mode::Negative),
-        (BaseModifier::MinusMinus, BaseModifier::Unmodified, Offset::Missing | Offset::Bracket(_)) => Some(
-            Mode::PreDecrement,
-        ),
-        (BaseModifier::PlusPlus, BaseModifier::Unmodified, Offset::Missing | Offset::Bracket(_)) => Some(
-            Mode::PreIncrement,
-        ),
-        (BaseModifier::Unmodified, BaseModifier::MinusMinus, Offset::Missing | Offset::Bracket(_)) => Some(
-            Mode::PostDecrement,
-        ),
-        (BaseModifier::Unmodified, BaseModifier::PlusPlus, Offset::Missing | Offset::Bracket(_)) => Some(
-            Mode::PostIncrement,
-        ),
+        (
+            BaseModifier::MinusMinus,
+            BaseModifier::Unmodified,
+            Offset::Missing | Offset::Bracket(_),
+        ) => Some(Mode::PreDecrement),
+        (BaseModifier::PlusPlus, BaseModifier::Unmodified, Offset::Missing | Offset::Bracket(_)) =>
+            Some(Mode::PreIncrement),
+        (
+            BaseModifier::Unmodified,
+            BaseModifier::MinusMinus,
+            Offset::Missing | Offset::Bracket(_),
+        ) => Some(Mode::PostDecrement),
+        (BaseModifier::Unmodified, BaseModifier::PlusPlus, Offset::Missing | Offset::Bracket(_)) =>
+            Some(Mode::PostIncrement),
         _ => None,
     }
 }

@@ -26,7 +26,11 @@ pub fn read_label<'t>(lexemes: &'t [Lexeme]) -> Option<(Option<Word>, Remaining<
     ensures { result ≡ read_label lexemes.now }
 {
     match lexemes {
-        [Lexeme::Word(word), Lexeme::Punctuator(Punctuator::Colon), rest @ ..] => {
+        [
+            Lexeme::Word(word),
+            Lexeme::Punctuator(Punctuator::Colon),
+            rest @ ..,
+        ] => {
             if is_name(*word) {
                 Some((Some(*word), Remaining::of(rest)))
             } else {

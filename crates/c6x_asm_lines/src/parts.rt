@@ -21,7 +21,11 @@ fn read_number<'t>(lexemes: &'t [Lexeme]) -> Option<(Number, Remaining<'t>)>
             },
             Remaining::of(rest),
         )),
-        [Lexeme::Punctuator(Punctuator::Minus), Lexeme::Number(size), rest @ ..] => Some((
+        [
+            Lexeme::Punctuator(Punctuator::Minus),
+            Lexeme::Number(size),
+            rest @ ..,
+        ] => Some((
             Number {
                 negative: true,
                 size: *size,
@@ -60,7 +64,10 @@ fn read_primary<'t>(lexemes: &'t [Lexeme]) -> Option<(Primary, Remaining<'t>)>
 {
     match lexemes {
         [Lexeme::Word(word), rest @ ..] => match word.class {
-            WordClass::Register(register) => Some((Primary::Register(register), Remaining::of(rest))),
+            WordClass::Register(register) => Some((
+                Primary::Register(register),
+                Remaining::of(rest),
+            )),
             _ => {
                 if word.len > MOST_NAME_BYTES {
                     return None;
@@ -124,7 +131,11 @@ pub fn read_value<'t>(lexemes: &'t [Lexeme]) -> Option<(Value, Remaining<'t>)>
                 rest,
             ))
         }
-        [Lexeme::Punctuator(Punctuator::Percent), Lexeme::Word(kind), rest @ ..] => Some((
+        [
+            Lexeme::Punctuator(Punctuator::Percent),
+            Lexeme::Word(kind),
+            rest @ ..,
+        ] => Some((
             Value::Kind {
                 kind: *kind,
                 inner: None,

@@ -1,7 +1,7 @@
 use crate::instr_word::InstrWord;
-use c6x_base::Row;
 use crate::reloc_entry::RelocEntry;
 use crate::section_kind::SectionKind;
+use c6x_base::Row;
 
 /// A section as the lines so far make it.
 #[derive(Drop)]

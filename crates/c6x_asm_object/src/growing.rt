@@ -3,10 +3,10 @@ ghost use Rattle.c6x_asm_object.specs.Sections.{empty_section, is_zero, with_byt
 
 use crate::asm_section::AsmSection;
 use crate::instr_word::InstrWord;
-use c6x_base::Row;
 use crate::naming::first_align;
 use crate::reloc_entry::RelocEntry;
 use crate::section_kind::SectionKind;
+use c6x_base::Row;
 use std::alloc::{AllocError, Global};
 
 /// A section without contents.
@@ -125,7 +125,11 @@ fn set_parallel(section: &mut AsmSection, chained: bool)
 
 /// An instruction with its relocation.
 #[tactic(auto, unfolding(crate::specs::Sections::with_instruction))]
-pub fn put_instruction(section: &mut AsmSection, instruction: InstrWord, entry: Option<RelocEntry>) -> Result<(), AllocError>
+pub fn put_instruction(
+    section: &mut AsmSection,
+    instruction: InstrWord,
+    entry: Option<RelocEntry>,
+) -> Result<(), AllocError>
     requires { section.old.size + 4 < 2 ^ 32 }
     ensures { OnOk result (section.new ≡ with_instruction instruction entry section.old) }
 {

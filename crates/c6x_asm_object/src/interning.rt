@@ -5,7 +5,7 @@ ghost use Rattle.c6x_asm_object.specs.Named.{AreNamed};
 
 use crate::symbol::Symbol;
 use crate::symbols::Symbols;
-use c6x_asm_lines::{bytes_at, Word};
+use c6x_asm_lines::{Word, bytes_at};
 use std::alloc::AllocError;
 
 /// The place of a word's name among the names so far.

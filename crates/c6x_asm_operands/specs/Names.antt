@@ -13,6 +13,7 @@ use Rattle.c6x_instr.specs.declared.move_kind.MoveKind.{MoveKind}
 use Rattle.c6x_instr.specs.declared.move_kind.MoveKind.TheVariants.{Mvk, Mvkh, Addk}
 use Rattle.c6x_instr.specs.declared.unit_kind.UnitKind.{UnitKind}
 use Rattle.c6x_instr.specs.declared.unit_kind.UnitKind.TheVariants.{L, S, D, M}
+use Rattle.c6x_reloc.specs.Table.{kinds}
 use Rattle.c6x_reloc.specs.declared.reloc_kind.RelocKind.{RelocKind}
 use Rattle.c6x_reloc.specs.declared.reloc_kind.RelocKind.TheVariants.{NONE, ABS32, ABS16, ABS8, PCR_S21, PCR_S12, PCR_S7, ABS_S16, ABS_L16, ABS_H16, SBR_U15_B, SBR_U15_H, SBR_U15_W, SBR_S16, SBR_L16_B, SBR_L16_H, SBR_L16_W, SBR_H16_B, SBR_H16_H, SBR_H16_W, SBR_GOT_U15_W, SBR_GOT_L16_W, SBR_GOT_H16_W, DSBT_INDEX, JUMP_SLOT, ALIGN, FPHEAD, NOCMP}
 use Rattle.c6x_asm_operands.specs.declared.mnemonic.Mnemonic.{Mnemonic}
@@ -103,12 +104,6 @@ kind_name JUMP_SLOT = codes "jump_slot"
 kind_name ALIGN = codes "align"
 kind_name FPHEAD = codes "fphead"
 kind_name NOCMP = codes "nocmp"
-
-abbrev pub kinds : List RelocKind
-kinds =
-    NONE ∷ ABS32 ∷ ABS16 ∷ ABS8 ∷ PCR_S21 ∷ PCR_S12 ∷ PCR_S7 ∷ ABS_S16 ∷ ABS_L16 ∷ ABS_H16
-    ∷ SBR_U15_B ∷ SBR_U15_H ∷ SBR_U15_W ∷ SBR_S16 ∷ SBR_L16_B ∷ SBR_L16_H ∷ SBR_L16_W ∷ SBR_H16_B ∷ SBR_H16_H ∷ SBR_H16_W
-    ∷ SBR_GOT_U15_W ∷ SBR_GOT_L16_W ∷ SBR_GOT_H16_W ∷ DSBT_INDEX ∷ JUMP_SLOT ∷ ALIGN ∷ FPHEAD ∷ NOCMP ∷ []
 
 -- the relocation kind with this lower-case name
 unfoldable pub kind_of : List ℕ → Option RelocKind

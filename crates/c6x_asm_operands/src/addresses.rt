@@ -5,7 +5,7 @@ use crate::numbers::number_in;
 use crate::operands::{register_on, value_field};
 use crate::place::Place;
 use crate::range::Range;
-use c6x_asm_lines::{Address, AsmRule, both, Mode, Offset, Operand, Primary, Register, Value};
+use c6x_asm_lines::{Address, AsmRule, Mode, Offset, Operand, Primary, Register, Value, both};
 use c6x_base::Side;
 use c6x_reloc::RelocKind;
 

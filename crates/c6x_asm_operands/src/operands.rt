@@ -1,5 +1,4 @@
 ghost use Rattle.std.specs.Prelude.{◌≡◌, ◌^◌, ◌<◌, ◌≤◌, IfOk};
-ghost use Rattle.c6x_reloc.specs.Table.{row_of};
 ghost use Rattle.c6x_asm_operands.specs.Operands.{same_side, register_on, register_operand, constant_operand, addend_of, symbol_field, same_field, is_index, index_field, inner_field, named_field, value_field, field_operand};
 ghost use Rattle.c6x_asm_lines.specs.Bytes.{bytes_at};
 
@@ -8,9 +7,9 @@ use crate::numbers::number_in;
 use crate::range::Range;
 use crate::relocatable::Field;
 use crate::relocation::Relocation;
-use c6x_asm_lines::{AsmRule, bytes_at, Number, Operand, Primary, Register, Value, Word};
+use c6x_asm_lines::{AsmRule, Number, Operand, Primary, Register, Value, Word, bytes_at};
 use c6x_base::Side;
-use c6x_reloc::{RelocKind, width};
+use c6x_reloc::{RelocKind, lowest_bit, width};
 
 const ADDENDS: Range = Range {
     below: 2_147_483_648,
@@ -93,38 +92,10 @@ fn symbol_field(kind: RelocKind, name: Word, addend: Option<Number>) -> Result<F
     })
 }
 
-#[tactic(auto, unfolding(c6x_reloc::specs::Table::row_of))]
-fn low_of(kind: RelocKind) -> u32
-    ensures { result ≡ (row_of kind).low }
-{
-    match kind {
-        RelocKind::PCR_S21
-        | RelocKind::ABS_S16
-        | RelocKind::ABS_L16
-        | RelocKind::ABS_H16
-        | RelocKind::SBR_S16
-        | RelocKind::SBR_L16_B
-        | RelocKind::SBR_L16_H
-        | RelocKind::SBR_L16_W
-        | RelocKind::SBR_H16_B
-        | RelocKind::SBR_H16_H
-        | RelocKind::SBR_H16_W
-        | RelocKind::SBR_GOT_L16_W
-        | RelocKind::SBR_GOT_H16_W => 7,
-        RelocKind::PCR_S12 | RelocKind::PCR_S7 => 16,
-        RelocKind::SBR_U15_B
-        | RelocKind::SBR_U15_H
-        | RelocKind::SBR_U15_W
-        | RelocKind::SBR_GOT_U15_W
-        | RelocKind::DSBT_INDEX => 8,
-        _ => 0,
-    }
-}
-
 fn same_field(kind: RelocKind, other: RelocKind) -> bool
     ensures { result ≡ same_field kind other }
 {
-    low_of(kind) == low_of(other) && width(kind) == width(other)
+    lowest_bit(kind) == lowest_bit(other) && width(kind) == width(other)
 }
 
 fn is_index(kind: RelocKind) -> bool
@@ -208,7 +179,11 @@ pub fn value_field(
         }
         Value::Primary(Primary::Symbol { name, addend }) => symbol_field(default, name, addend),
         Value::Primary(Primary::Register(_)) => Err(AsmRule::Operand),
-        Value::Kind { kind, inner } => named_field(default, kind_of(bytes_at(text, kind.at, kind.len)), inner),
+        Value::Kind { kind, inner } => named_field(
+            default,
+            kind_of(bytes_at(text, kind.at, kind.len)),
+            inner,
+        ),
     }
 }
 

@@ -9,7 +9,7 @@ use crate::sections::enter;
 use crate::symbols::{place, placed_fault, set_attribute};
 use c6x_asm_directives::Directive;
 use c6x_asm_lines::{AsmRule, Word};
-use c6x_asm_object::{Object, Definition, add_align, add_number, add_zeros, padding};
+use c6x_asm_object::{Definition, Object, add_align, add_number, add_zeros, padding};
 use c6x_asm_operands::Field;
 use std::alloc::{AllocError, Global};
 
@@ -152,7 +152,10 @@ pub fn apply<'a>(
             None => Ok(Err(AsmRule::NoSection)),
             Some(i) => align_to(object, i, *align),
         },
-        Directive::Attribute { attribute: kind, name } => {
+        Directive::Attribute {
+            attribute: kind,
+            name,
+        } => {
             set_attribute(text, &mut object.symbols, *name, *kind)?;
             Ok(Ok(()))
         }

@@ -6,9 +6,9 @@ ghost use Rattle.c6x_asm_steps.specs.Instructions.{ends_at, is_behind, chain_fau
 
 use crate::directives::has_room;
 use crate::relocations::relocate;
-use c6x_asm_lines::{AsmRule, StatementHead, lower, lowest, Operand};
 use c6x_asm_instr::instruction_of;
-use c6x_asm_object::{add_instruction, AsmSection, InstrWord, is_zero, Object, SectionKind};
+use c6x_asm_lines::{AsmRule, Operand, StatementHead, lower, lowest};
+use c6x_asm_object::{AsmSection, InstrWord, Object, SectionKind, add_instruction, is_zero};
 use c6x_asm_operands::RelocatableOp;
 use c6x_encoding::{encode, is_valid};
 use c6x_instr::{Cond, Instr, Op};

@@ -2,8 +2,8 @@ ghost use Rattle.std.specs.Prelude.{◌≡◌, ◌+◌, ◌<◌, IfSome, OnOk, l
 ghost use Rattle.c6x_asm_steps.specs.States.{State, state_of, IsSound, section_fault, label_definition, label_fault, labelled};
 
 use crate::symbols::{place, placed_fault};
-use c6x_asm_lines::{AsmRule, lowest, Word};
-use c6x_asm_object::{Object, AsmSection, Definition};
+use c6x_asm_lines::{AsmRule, Word, lowest};
+use c6x_asm_object::{AsmSection, Definition, Object};
 use std::alloc::AllocError;
 
 fn section_fault(now: Option<usize>) -> Option<AsmRule>

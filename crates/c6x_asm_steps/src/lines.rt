@@ -6,8 +6,8 @@ use crate::directives::apply;
 use crate::instructions::instruct;
 use crate::labels::{label_fault, set_label};
 use c6x_asm_directives::{Keyword, directive_of, keyword_of, kinds_fault};
-use c6x_asm_lines::{AsmRule, bytes_at, Line, lower, Operand, Statement, Word, WordClass};
-use c6x_asm_object::{AsmSection, is_zero, Object};
+use c6x_asm_lines::{AsmRule, Line, Operand, Statement, Word, WordClass, bytes_at, lower};
+use c6x_asm_object::{AsmSection, Object, is_zero};
 use std::alloc::{AllocError, Global};
 
 fn is_numbers(keyword: Keyword) -> bool

@@ -16,10 +16,12 @@ fn outcome_of(alloc: Global, text: &[u8]) -> Outcome {
     }
     match assemble(alloc, text) {
         Ok(file) => Outcome::Sections(file.sections.as_slice().len()),
-        Err(AsmError::Rule {
-            rule: AsmRule::Large,
-            line,
-        }) => Outcome::LargeAt(line),
+        Err(
+            AsmError::Rule {
+                rule: AsmRule::Large,
+                line,
+            },
+        ) => Outcome::LargeAt(line),
         Err(_) => Outcome::Other,
     }
 }
@@ -72,7 +74,10 @@ fn bytes_up_to_the_most(rt: HostRuntime) -> Result<(), Fail> {
     let front =
         b".sect \"a\"\n.space 1048576\n.sect \"b\"\n.space 1048576\n.sect \"c\"\n.space 1048576\n.sect \"d\"\n.space 1000000\n";
     let rows = [
-        (b".sect \"e\"\n.space 48024\n".as_slice(), Outcome::Sections(9)),
+        (
+            b".sect \"e\"\n.space 48024\n".as_slice(),
+            Outcome::Sections(9),
+        ),
         (b".sect \"e\"\n.space 48025\n", Outcome::LargeAt(10)),
     ];
     for (last, wanted) in rows {

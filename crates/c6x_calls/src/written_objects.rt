@@ -4,8 +4,7 @@ use std::alloc::{AllocError, Global};
 use std::test::Fail;
 
 /// The contents of each section: its own address, 5, the halves 1 and 2, the bytes 1 to 4, eight zeros.
-const CONTENTS: &[u8] =
-    b"\0\0\0\0\x05\0\0\0\x01\0\x02\0\x01\x02\x03\x04\0\0\0\0\0\0\0\0";
+const CONTENTS: &[u8] = b"\0\0\0\0\x05\0\0\0\x01\0\x02\0\x01\x02\x03\x04\0\0\0\0\0\0\0\0";
 
 /// Forty sections of eight lines each.
 fn forty_sections(alloc: Global) -> Result<Vec<u8>, AllocError> {
@@ -17,7 +16,10 @@ fn forty_sections(alloc: Global) -> Result<Vec<u8>, AllocError> {
             (".sect \"d", "\"\n"),
             (".global l", "\n"),
             ("l", ":"),
-            (" .word l", ",5\n.half 1,2\n.byte 1,2,3,4\n.align 8\n.space 8\n"),
+            (
+                " .word l",
+                ",5\n.half 1,2\n.byte 1,2,3,4\n.align 8\n.space 8\n",
+            ),
         ] {
             text.extend_from_slice(front.as_bytes())?;
             text.extend_from_slice(&number)?;
