@@ -48,5 +48,5 @@ names_few text o is =
     names_fit text s.symbols (short_names text s.sections s.symbols (opened text s.sections s.symbols (read_kept text s is).small))
 
 -- its object is tidy
-pub object_tidy : (text : List ℕ) (o : Object) → read_of text ≡ Ok (state_of o) → IsTidy (file_of text o.sections.items o.symbols.list.items)
+pub object_tidy : (text : List ℕ) (o : Object) → read_of text ≡ Ok (state_of o) → IsTidy false (file_of text o.sections.items o.symbols.list.items)
 object_tidy text o is = let s = state_of o in let kept = read_kept text s is in tidy text s.sections s.symbols kept.sound.sound kept.small

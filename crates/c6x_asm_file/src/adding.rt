@@ -7,6 +7,7 @@ use crate::relocating::relocation_table;
 use crate::section_table::SectionTable;
 use c6x_asm_lines::bytes_at;
 use c6x_asm_object::AsmSection;
+use c6x_elf::abi::SHT_RELA;
 use std::alloc::{AllocError, Global};
 
 /// The named sections.
@@ -51,7 +52,7 @@ fn add_rela(
     }
     let bytes = relocation_table(alloc, numbers, section.entries.as_slice())?;
     let kind = TableKind {
-        kind: 4,
+        kind: SHT_RELA,
         link: symtab,
         info: number,
         align: 4,

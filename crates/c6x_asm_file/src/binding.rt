@@ -3,28 +3,35 @@ ghost use Rattle.c6x_asm_form.specs.Bindings.{is_shared, binding, is_local, visi
 ghost use Rattle.c6x_asm_file.specs.Names.{is_in};
 
 use c6x_asm_object::{Definition, Symbol};
+use c6x_elf::abi::{
+    SHN_COMMON, SHN_TIC6X_SCOMMON, SHN_UNDEF, STB_GLOBAL, STB_LOCAL, STB_WEAK, STV_DEFAULT,
+    STV_HIDDEN,
+};
 
 fn is_shared(definition: Option<Definition>) -> bool
     ensures { result ≡ is_shared definition }
 {
     match definition {
         None => true,
-        Some(definition) => definition.section == 0xFFF2 || definition.section == 0xFF00,
+        Some(definition) => {
+            definition.section == usize::from(SHN_COMMON)
+                || definition.section == usize::from(SHN_TIC6X_SCOMMON)
+        }
     }
 }
 
-/// The binding of a symbol: LOCAL 0, GLOBAL 1, WEAK 2.
+/// The binding of a symbol: an undefined name and a common are global too.
 #[tactic(auto, unfolding(c6x_asm_form::specs::Bindings::binding))]
 pub fn binding(symbol: Symbol) -> u8
     ensures is { result ≡ binding symbol }
     ensures few { result ≤ 2 }
 {
     if symbol.weak {
-        2
+        STB_WEAK
     } else if symbol.global || is_shared(symbol.definition) {
-        1
+        STB_GLOBAL
     } else {
-        0
+        STB_LOCAL
     }
 }
 
@@ -32,7 +39,7 @@ pub fn binding(symbol: Symbol) -> u8
 pub fn is_local(symbol: Symbol) -> bool
     ensures { result ≡ is_local symbol }
 {
-    binding(symbol) == 0
+    binding(symbol) == STB_LOCAL
 }
 
 /// Whether a symbol is one of the local names, or one of the others.
@@ -46,11 +53,15 @@ pub fn is_in(local: bool, symbol: Symbol) -> bool
     }
 }
 
-/// The visibility of a symbol: HIDDEN 2, DEFAULT 0.
+/// The visibility of a symbol.
 pub fn visibility(symbol: Symbol) -> u8
     ensures { result ≡ visibility symbol }
 {
-    if symbol.hidden { 2 } else { 0 }
+    if symbol.hidden {
+        STV_HIDDEN
+    } else {
+        STV_DEFAULT
+    }
 }
 
 /// The place of a symbol, which is section 0 where it has none.
@@ -59,7 +70,7 @@ pub fn definition_or_none(definition: Option<Definition>) -> Definition
 {
     match definition {
         None => Definition {
-            section: 0,
+            section: usize::from(SHN_UNDEF),
             value: 0,
             size: 0,
         },

@@ -7,6 +7,7 @@ use crate::binding::{binding, definition_or_none, is_in, visibility};
 use c6x_asm_lines::bytes_at;
 use c6x_asm_object::Symbol;
 use c6x_base::Row;
+use c6x_elf::abi::STT_SECTION;
 use std::alloc::{AllocError, Global};
 
 // The numbers of an entry but for the name.
@@ -95,7 +96,7 @@ fn put_sections(bytes: &mut Row<u8>, count: usize) -> Result<(), AllocError>
         let entry = SymbolEntry {
             value: 0,
             size: 0,
-            info: 3,
+            info: STT_SECTION,
             other: 0,
             section: i + 1,
         };

@@ -12,6 +12,7 @@ use crate::strings::name_table;
 use c6x_asm_object::{AsmSection, Symbol};
 use c6x_base::Row;
 use c6x_elf::File;
+use c6x_elf::abi::{ET_REL, SHT_SYMTAB};
 use std::alloc::{AllocError, Global};
 
 fn symtab_of(sections: &[AsmSection]) -> usize
@@ -45,7 +46,7 @@ fn add_symtab(
 {
     let bytes = symbol_table(alloc, text, sections.len(), symbols)?;
     let kind = TableKind {
-        kind: 2,
+        kind: SHT_SYMTAB,
         link: symtab_of(sections) + 1,
         info: 1 + sections.len() + count_local(symbols),
         align: 4,
@@ -106,7 +107,7 @@ pub fn file_of(
     let mut table = SectionTable::new(alloc)?;
     add_sections(alloc, text, sections, symbols, &mut table)?;
     Ok(File {
-        kind: 1,
+        kind: ET_REL,
         entry: 0,
         flags: 0,
         names: names_number(sections),

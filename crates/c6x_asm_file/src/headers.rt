@@ -4,14 +4,17 @@ ghost use Rattle.c6x_asm_form.specs.Headers.{section_type, section_flags, sectio
 use c6x_asm_object::{AsmSection, SectionKind};
 use c6x_base::Bytes;
 use c6x_elf::Section;
+use c6x_elf::abi::{
+    SHF_ALLOC, SHF_EXECINSTR, SHF_WRITE, SHT_NOBITS, SHT_NULL, SHT_PROGBITS, SHT_STRTAB,
+};
 use std::alloc::{AllocError, Global};
 
 fn section_type(kind: SectionKind) -> u32
     ensures { result ≡ section_type kind }
 {
     match kind {
-        SectionKind::Zero => 8,
-        _ => 1,
+        SectionKind::Zero => SHT_NOBITS,
+        _ => SHT_PROGBITS,
     }
 }
 
@@ -19,9 +22,9 @@ fn section_flags(kind: SectionKind) -> u32
     ensures { result ≡ section_flags kind }
 {
     match kind {
-        SectionKind::Text => 6,
-        SectionKind::Constant => 2,
-        SectionKind::Zero | SectionKind::Data => 3,
+        SectionKind::Text => SHF_ALLOC + SHF_EXECINSTR,
+        SectionKind::Constant => SHF_ALLOC,
+        SectionKind::Zero | SectionKind::Data => SHF_WRITE + SHF_ALLOC,
     }
 }
 
@@ -57,7 +60,7 @@ pub struct TableKind {
 
 /// A table of names has no other numbers.
 pub const STRINGS: TableKind = TableKind {
-    kind: 3,
+    kind: SHT_STRTAB,
     link: 0,
     info: 0,
     align: 1,
@@ -91,7 +94,7 @@ pub fn null_section(alloc: Global) -> Result<Section, AllocError>
     ensures { IfOk result (λ section. section ≡ null_section) }
 {
     let null = TableKind {
-        kind: 0,
+        kind: SHT_NULL,
         link: 0,
         info: 0,
         align: 0,

@@ -145,7 +145,7 @@ names_short text ps names short =
     omega arith
 
 -- the limits leave only the last of the sections' numbers
-tidy_within : (text : List ℕ) (ps : List AsmSection) (names : List Symbol) → AreSound ps names → IsLimited (file_with ((symtab_of ps + 2) % 65536) (sections_all text ps names)) → IsTidy (file_with ((symtab_of ps + 2) % 65536) (sections_all text ps names))
+tidy_within : (text : List ℕ) (ps : List AsmSection) (names : List Symbol) → AreSound ps names → IsLimited (file_with ((symtab_of ps + 2) % 65536) (sections_all text ps names)) → IsTidy false (file_with ((symtab_of ps + 2) % 65536) (sections_all text ps names))
 tidy_within text ps names sound limits =
     let all = sections_all text ps names in
     let most : length all ≤ 4096 = limits.count in
@@ -158,7 +158,7 @@ tidy_within text ps names sound limits =
     tidy_with ((symtab_of ps + 2) % 65536) all (omega arith) limits (subst (AllKept all) (sym number) kept)
 
 -- sound sections and symbols within the limits make a tidy file
-pub tidy : (text : List ℕ) (ps : List AsmSection) (names : List Symbol) → AreSound ps names → is_large text ps names ≡ false → IsTidy (file_of text ps names)
+pub tidy : (text : List ℕ) (ps : List AsmSection) (names : List Symbol) → AreSound ps names → is_large text ps names ≡ false → IsTidy false (file_of text ps names)
 unfolding is_large file_of sections_of
 tidy text ps names sound small =
     tidy_within text ps names sound (limited (file_with ((symtab_of ps + 2) % 65536) (sections_all text ps names)) small)

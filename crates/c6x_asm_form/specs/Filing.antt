@@ -1,6 +1,7 @@
 -- The object file: the null section, the named ones in order of first appearance, their relocation tables, `.symtab`,
 -- `.strtab`, `.shstrtab`.
 use Rattle.std.specs.Prelude.{ℕ, ◌+◌, ◌%◌, nat_le, Bool, if◌then◌else◌, List, [], ◌∷◌, ◌++◌, length, map, count_by, codes}
+use Rattle.c6x_elf.specs.Abi.{ET_REL, SHT_RELA, SHT_STRTAB, SHT_SYMTAB}
 use Rattle.c6x_elf.specs.declared.file.File.{File}
 use Rattle.c6x_elf.specs.declared.section.Section.{Section}
 use Rattle.c6x_asm_object.specs.Named.{section_name}
@@ -30,7 +31,7 @@ symtab_of sections = 1 + length sections + count_by has_entries sections
 abbrev pub named_rela : List ℕ → List ℕ → ℕ → ℕ → AsmSection → Named
 named_rela text numbers symtab number p = record {
   name = codes ".rela" ++ section_name text p;
-  section = table_section 4 symtab number 4 12 (relocation_rows numbers p.entries);
+  section = table_section SHT_RELA symtab number 4 12 (relocation_rows numbers p.entries);
 }
 
 -- those of the sections that have relocations, where the first section has this number
@@ -45,12 +46,12 @@ unfoldable pub named_symtab : List ℕ → List AsmSection → List Symbol → N
 named_symtab text sections symbols = record {
   name = codes ".symtab";
   section =
-      table_section 2 (symtab_of sections + 1) (1 + length sections + count_by is_local symbols) 4 16
+      table_section SHT_SYMTAB (symtab_of sections + 1) (1 + length sections + count_by is_local symbols) 4 16
       (symbol_table text (length sections) symbols);
 }
 
 unfoldable pub named_strtab : List ℕ → List Symbol → Named
-named_strtab text symbols = record { name = codes ".strtab"; section = table_section 3 0 0 1 0 (name_table text symbols) }
+named_strtab text symbols = record { name = codes ".strtab"; section = table_section SHT_STRTAB 0 0 1 0 (name_table text symbols) }
 
 -- all sections in order but the null section and the names of the sections
 unfoldable pub named_sections : List ℕ → List AsmSection → List Symbol → List Named
@@ -67,7 +68,7 @@ names_of (n ∷ named) = n.name ++ (0 ∷ names_of named)
 unfoldable pub named_shstrtab : List Named → Named
 named_shstrtab named = record {
   name = codes ".shstrtab";
-  section = table_section 3 0 0 1 0 (0 ∷ (names_of named ++ (codes ".shstrtab" ++ (0 ∷ []))));
+  section = table_section SHT_STRTAB 0 0 1 0 (0 ∷ (names_of named ++ (codes ".shstrtab" ++ (0 ∷ []))));
 }
 
 -- each section with the offset of its name, where the first one's has this offset
@@ -80,7 +81,7 @@ sections_of named = null_section ∷ sections_from 1 (named ++ (named_shstrtab n
 
 unfoldable pub file_of : List ℕ → List AsmSection → List Symbol → File
 file_of text sections symbols = record {
-  kind = 1;
+  kind = ET_REL;
   entry = 0;
   flags = 0;
   names = (symtab_of sections + 2) % 65536;

@@ -1,21 +1,22 @@
 -- The section headers of an object (gABI chapter 4, "Sections").
-use Rattle.std.specs.Prelude.{ℕ, ◌%◌, List, [], length}
+use Rattle.std.specs.Prelude.{ℕ, ◌+◌, ◌%◌, List, [], length}
+use Rattle.c6x_elf.specs.Abi.{SHF_ALLOC, SHF_EXECINSTR, SHF_WRITE, SHT_NOBITS, SHT_NULL, SHT_PROGBITS}
 use Rattle.c6x_elf.specs.declared.section.Section.{Section}
 use Rattle.c6x_asm_object.specs.declared.asm_section.AsmSection.{AsmSection}
 use Rattle.c6x_asm_object.specs.declared.section_kind.SectionKind.{SectionKind}
 use Rattle.c6x_asm_object.specs.declared.section_kind.SectionKind.TheVariants.{Text, Constant, Zero, Data}
 
--- NOBITS 8, PROGBITS 1
+-- only a section of zeros has no bytes in the file
 abbrev pub section_type : SectionKind → ℕ
-section_type Zero = 8
-section_type _ = 1
+section_type Zero = SHT_NOBITS
+section_type _ = SHT_PROGBITS
 
--- WRITE 1, ALLOC 2, EXECINSTR 4
+-- all have memory; code runs, and constants are not written
 abbrev pub section_flags : SectionKind → ℕ
-section_flags Text = 6
-section_flags Constant = 2
-section_flags Zero = 3
-section_flags Data = 3
+section_flags Text = SHF_ALLOC + SHF_EXECINSTR
+section_flags Constant = SHF_ALLOC
+section_flags Zero = SHF_WRITE + SHF_ALLOC
+section_flags Data = SHF_WRITE + SHF_ALLOC
 
 -- a section of the text; its name's offset is not said yet
 unfoldable pub section_header : AsmSection → Section
@@ -27,4 +28,4 @@ table_section kind link info align entsize bytes =
     record { name = 0; kind = kind; flags = 0; addr = 0; size = length bytes % 4294967296; link = link % 4294967296; info = info % 4294967296; align = align; entsize = entsize; bytes = bytes }
 
 unfoldable pub null_section : Section
-null_section = table_section 0 0 0 0 0 []
+null_section = table_section SHT_NULL 0 0 0 0 []

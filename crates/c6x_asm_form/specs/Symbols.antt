@@ -1,6 +1,7 @@
 -- The symbol table of an object and its names (gABI chapter 4, "Symbol Table" and "String Table"): the null symbol, the
 -- section symbols, the local names, the others; the order inside a group is that of first appearance.
 use Rattle.std.specs.Prelude.{ℕ, zero, suc, ◌+◌, ◌*◌, ◌%◌, if◌then◌else◌, List, [], ◌∷◌, ◌++◌, length, map, take, filter, count_by}
+use Rattle.c6x_elf.specs.Abi.{STT_SECTION}
 use Rattle.c6x_asm_object.specs.Symbols.{symbol_name, symbol_of}
 use Rattle.std.specs.Int.{to_le_bytes, w16, w32}
 use Rattle.std.specs.List.{range_with_len}
@@ -29,7 +30,7 @@ symbol_rows text name (s ∷ symbols) = symbol_row name s ++ symbol_rows text (n
 -- the symbols of so many sections, of type SECTION, from this number on
 abbrev pub section_rows : ℕ → ℕ → List ℕ
 section_rows number zero = []
-section_rows number (suc count) = entry_row 0 0 0 3 0 number ++ section_rows (number + 1) count
+section_rows number (suc count) = entry_row 0 0 0 STT_SECTION 0 number ++ section_rows (number + 1) count
 
 unfoldable pub symbol_table : List ℕ → ℕ → List Symbol → List ℕ
 symbol_table text sections symbols =

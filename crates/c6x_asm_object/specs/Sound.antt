@@ -1,5 +1,6 @@
 -- What is true of the sections and symbols that lines of a text make.
 use Rattle.std.specs.Prelude.{◌≡◌, ℕ, ◌<◌, ◌≤◌, ◌⊎◌, true, false, All, IfSome, List, [], length}
+use Rattle.c6x_elf_entries.specs.declared.abi.TheConstants.{SHN_LORESERVE}
 use Rattle.c6x_asm_object.specs.declared.reloc_entry.RelocEntry.{RelocEntry}
 use Rattle.c6x_asm_object.specs.declared.asm_section.AsmSection.{AsmSection}
 use Rattle.c6x_asm_object.specs.declared.definition.Definition.{Definition}
@@ -18,7 +19,7 @@ pub record IsSectionSound (names : ℕ) (p : AsmSection) : Type 0 where
 
 -- a place is in one of so many sections or in none, or its number is reserved (gABI chapter 4, "Special Section Indexes")
 abbrev pub IsDefinitionSound : ℕ → Definition → Type 0
-IsDefinitionSound sections definition = (definition.section ≤ sections) ⊎ ((0xFF00 ≤ definition.section) × (definition.section < 65536))
+IsDefinitionSound sections definition = (definition.section ≤ sections) ⊎ ((SHN_LORESERVE ≤ definition.section) × (definition.section < 65536))
 
 pub record IsSymbolSound (sections : ℕ) (s : Symbol) : Type 0 where
   pub place : IfSome s.definition (IsDefinitionSound sections)

@@ -1,5 +1,6 @@
 -- What a directive adds.
 use Rattle.std.specs.Prelude.{ℕ, ◌+◌, nat_le, Bool, if◌then◌else◌, List, [], ◌∷◌, Option, Some, None, Result, Ok, Err}
+use Rattle.c6x_elf_entries.specs.declared.abi.TheConstants.{SHN_ABS, SHN_COMMON, SHN_TIC6X_SCOMMON}
 use Rattle.c6x_asm_operands.specs.declared.relocatable.Field.{Field}
 use Rattle.c6x_asm_lines.specs.declared.rule.AsmRule.{AsmRule}
 use Rattle.c6x_asm_lines.specs.declared.rule.AsmRule.TheVariants.{NoSection, Large}
@@ -45,7 +46,7 @@ given_place text s word definition (Some r) = Err r
 
 -- the section number of a common symbol (gABI chapter 4; SPRAB89 for the near one), and that of an absolute one
 abbrev pub common_section : Bool → ℕ
-common_section near = if near then 0xFF00 else 0xFFF2
+common_section near = if near then SHN_TIC6X_SCOMMON else SHN_COMMON
 
 unfoldable pub applied : List ℕ → State → Directive → Result State AsmRule
 applied text s (Section at len) = Ok (entered text at len s)
@@ -54,4 +55,4 @@ applied text s (Space count) = in_section s.now (with_space count s)
 applied text s (Align align) = in_section s.now (with_alignment align s)
 applied text s (SetAttribute attribute word) = Ok (record s { symbols = name_changed text s.symbols word (with_attribute attribute) })
 applied text s (Common word size align near) = given_place text s word (record { section = common_section near; value = align; size = size }) (placed_fault text s.symbols word)
-applied text s (Set word value) = given_place text s word (record { section = 0xFFF1; value = value; size = 0 }) (placed_fault text s.symbols word)
+applied text s (Set word value) = given_place text s word (record { section = SHN_ABS; value = value; size = 0 }) (placed_fault text s.symbols word)

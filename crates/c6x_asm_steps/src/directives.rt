@@ -11,6 +11,7 @@ use c6x_asm_directives::Directive;
 use c6x_asm_lines::{AsmRule, Word};
 use c6x_asm_object::{Definition, Object, add_align, add_number, add_zeros, padding};
 use c6x_asm_operands::Field;
+use c6x_elf_entries::abi::{SHN_ABS, SHN_COMMON, SHN_TIC6X_SCOMMON};
 use std::alloc::{AllocError, Global};
 
 /// Whether a section of this size may grow by so many bytes.
@@ -119,7 +120,7 @@ fn give_place<'a>(
 fn common_section(near: bool) -> usize
     ensures { result ≡ common_section near }
 {
-    if near { 0xFF00 } else { 0xFFF2 }
+    usize::from(if near { SHN_TIC6X_SCOMMON } else { SHN_COMMON })
 }
 
 /// What a directive adds, or the rule that it breaks.
@@ -174,7 +175,7 @@ pub fn apply<'a>(
         }
         Directive::Set { name, value } => {
             let definition = Definition {
-                section: 0xFFF1,
+                section: usize::from(SHN_ABS),
                 value: *value,
                 size: 0,
             };
