@@ -5,8 +5,6 @@
 
 mod answer;
 mod digits;
-#[cfg(test)]
-mod tests;
 
 use answer::put_answer;
 use digits::bytes_of;
