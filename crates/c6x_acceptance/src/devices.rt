@@ -84,36 +84,42 @@ fn stored(alloc: Global, name: &[u8], bytes: &[u8]) -> Result<Stored, AllocError
     })
 }
 
-/// The status of the command with these words, split at spaces.
-fn perform(alloc: Global, devices: &mut Devices, text: &str) -> Result<u8, AllocError> {
+/// Whether the command with these words, split at spaces, gives this status, and both outputs then have these texts.
+pub fn gives(
+    alloc: Global,
+    devices: &mut Devices,
+    text: &str,
+    status: u8,
+    out: &str,
+    err: &str,
+) -> Result<bool, AllocError> {
     let mut words = Vec::new(alloc);
     for word in text.split(' ') {
         words.push(Name::from_bytes(alloc, word.as_bytes())?)?;
     }
-    Ok(command(
+    Ok(gives_to_words(alloc, devices, words, status, out, err))
+}
+
+/// The same of these words.
+pub fn gives_to_words(
+    alloc: Global,
+    devices: &mut Devices,
+    words: Vec<Name>,
+    status: u8,
+    out: &str,
+    err: &str,
+) -> bool {
+    let given = command(
         alloc,
         words,
         &mut devices.shelf,
         &mut devices.out,
         &mut devices.err,
         &mut devices.board,
-    ))
-}
-
-/// Whether the command with these words gives this status, and both outputs then have these texts.
-pub fn gives(
-    alloc: Global,
-    devices: &mut Devices,
-    words: &str,
-    status: u8,
-    out: &str,
-    err: &str,
-) -> Result<bool, AllocError> {
-    Ok(
-        perform(alloc, devices, words)? == status
-            && devices.out.bytes() == out.as_bytes()
-            && devices.err.bytes() == err.as_bytes(),
-    )
+    );
+    given == status
+        && devices.out.bytes() == out.as_bytes()
+        && devices.err.bytes() == err.as_bytes()
 }
 
 /// Whether the board has this word at this address.

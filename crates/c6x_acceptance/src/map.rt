@@ -1,5 +1,6 @@
-use crate::devices::{BASE, Devices, filled_devices, gives, has_word};
+use crate::devices::{BASE, Devices, filled_devices, gives, gives_to_words, has_word};
 use crate::images::{ONE_PLAN, damaged_m1, front_of_m1, m1};
+use c6x_base::Name;
 use std::alloc::{AllocError, Global};
 
 const MAP_TEXT: &str =
@@ -73,6 +74,29 @@ fn what_is_not_built(rt: HostRuntime) -> Result<(), AllocError> {
     assert!(&rt; stops(alloc, b"", "map one.plan", 4, line)?);
     assert!(&rt; stops(alloc, &front_of_m1(alloc)?, "map one.plan", 4, line)?);
     assert!(&rt; stops(alloc, &damaged_m1(alloc)?, "map one.plan", 4, line)?);
+    Ok(())
+}
+
+// So is a plan that is no plain one.
+#[test]
+fn a_plan_that_is_not_built(rt: HostRuntime) -> Result<(), AllocError> {
+    let alloc = rt.alloc();
+    let image = m1(alloc)?;
+    let mut d = filled_devices(alloc, b"c6x-plan 2\n", &image, &[], &[], 192)?;
+    let line = "c6x: refused X1 NotBuilt one.plan 0\n";
+    assert!(&rt; gives(alloc, &mut d, "map one.plan", 4, "", line)?);
+    Ok(())
+}
+
+// A word that is not UTF-8 has no reading.
+#[test]
+fn a_word_that_is_no_text(rt: HostRuntime) -> Result<(), AllocError> {
+    let alloc = rt.alloc();
+    let mut d = one_devices(alloc, &[], &[])?;
+    let verb = Name::from_bytes(alloc, b"map")?;
+    let word = Name::from_bytes(alloc, b"one\xff.plan")?;
+    let words = vec![in alloc; verb, word]?;
+    assert!(&rt; gives_to_words(alloc, &mut d, words, 2, "", "c6x: usage\n"));
     Ok(())
 }
 

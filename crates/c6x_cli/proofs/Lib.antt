@@ -1,11 +1,4 @@
 pub mod Items
 pub mod Text
-pub mod Fetched
-pub mod Loads
-pub mod Objects
-pub mod Stores
-pub mod Lines
-pub mod Slots
-pub mod Ends
-pub mod Commands
-pub mod Runs
+pub mod Misread
+pub mod OutcomeKinds

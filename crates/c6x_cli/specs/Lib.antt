@@ -1,11 +1,2 @@
-pub mod Words
-pub mod Lines
-pub mod Stores
-pub mod Exits
-pub mod Steps
-pub mod Loading
-pub mod Assembling
-pub mod Report
-pub mod Run
-pub mod Result
-pub mod Causes
+pub mod Requests
+pub mod Meaning

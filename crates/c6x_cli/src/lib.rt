@@ -1,24 +1,11 @@
 //! The commands of `c6x` over a shelf of files, an output, an error output and a board.
 #![tactic(auto)]
 
-mod assembling;
-mod carry;
-mod carry_run;
-mod cause;
-mod command_word;
-mod end_text;
-mod fetch;
-mod halt;
-mod hex;
-mod loading;
+mod arguments;
+mod commit;
+mod dispatch;
 mod prepare;
-mod ready;
-mod refusing;
-mod report;
-mod say;
-mod stop;
-mod store;
-mod top;
-mod words;
+mod prepared;
+mod request;
 
-pub use top::command;
+pub use dispatch::command;

@@ -1,6 +1,7 @@
 use Rattle.std.proofs.Common.{◌≡◌, ℕ, ◌+◌, ◌≤◌, List, [], ◌++◌, length, take, drop, Option, Some, None, refl, sym, ◌∙◌, ap, append_assoc, append-nil}
-use Rattle.std.proofs.Math.Seq.{take-add, take-append_seam}
+use Rattle.std.proofs.Math.Seq.{take-add, take-append_seam, drop-append_seam}
 use Rattle.std.proofs.lemmas.List.{take_all}
+use Rattle.c6x_ports.specs.Streams.{GivesFront}
 use Rattle.std.specs.Io.KnownBytes.{Appends, Consumes, Keeps, IsAtEnd}
 
 -- A reader has given these bytes of those that it had left, and has the rest.
@@ -15,6 +16,17 @@ HasGiven-read left given more None now had consumed = cc
 HasGiven-read left given more (Some rest) None had consumed = absurd consumed
 HasGiven-read left given more (Some rest) (Some now) had consumed =
     record { rest = now; told = refl; whole = had.whole ∙ ap (λ r. given ++ r) (cc) ∙ sym (append_assoc given more now) }
+
+-- a read that failed gave nothing
+pub HasGiven-kept : (left given : List ℕ) (before now : Option (List ℕ)) → HasGiven left given before → Keeps before now → HasGiven left given now
+HasGiven-kept left given None now had kept = cc
+HasGiven-kept left given (Some rest) None had kept = absurd kept
+HasGiven-kept left given (Some rest) (Some now) had kept = record { rest = had.rest; told = cc; whole = had.whole }
+
+-- what was given is a first part of what was left
+pub given_front : (left given : List ℕ) (most : ℕ) (now : Option (List ℕ)) → length given ≤ most → HasGiven left given now → GivesFront left most now
+given_front left given most now within had =
+    record { count = length given; within = within; rest = rw (had.told, had.whole) (ap Some (sym (drop-append_seam given had.rest))) }
 
 -- at the end of its bytes it has given all of them
 pub given_all : (left given : List ℕ) (now : Option (List ℕ)) → HasGiven left given now → IsAtEnd now → left ≡ given

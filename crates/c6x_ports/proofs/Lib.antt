@@ -2,3 +2,4 @@ pub mod Carried
 pub mod Places
 pub mod Fetches
 pub mod Distinct
+pub mod Rises

@@ -1,6 +1,9 @@
+pub mod Shelf
+pub mod Sink
+pub mod Streams
 pub mod Others
 pub mod Numbered
 pub mod Told
-pub mod Shelved
-pub mod Taken
+pub mod MemoryShelf
+pub mod MemorySink
 pub mod Counts

@@ -51,13 +51,12 @@ impl<'a> DirShelf<'a> {
 impl<'a> Shelf for DirShelf<'a> {
     ghost use Rattle.std.specs.Prelude.{None};
 
-    ghost files = { λ _. None };
-
-    ghost read_faults = { λ s. s.read_faults };
-
-    ghost write_faults = { λ s. s.write_faults };
-
-    ghost absences = { λ s. s.absences };
+    ghost seen = { λ s. record {
+      files = None;
+      read_faults = s.read_faults;
+      write_faults = s.write_faults;
+      absences = s.absences;
+    } };
 
     /// The trait's clauses where nothing is told, and one more: a name that is not UTF-8 is missing.
     fn fetch(&mut self, alloc: Global, name: &Name, most: u32) -> Result<Vec<u8>, ShelfError>

@@ -13,8 +13,8 @@ mod numbered;
 mod parts;
 mod shelf;
 mod sink;
-mod std_sinks;
 mod stored;
+mod stream_sink;
 mod streams;
 
 pub use dir_shelf::DirShelf;
@@ -23,8 +23,8 @@ pub use memory_sink::MemorySink;
 pub use parts::put_parts;
 pub use shelf::{Shelf, ShelfError};
 pub use sink::{Sink, SinkError};
-pub use std_sinks::{ErrSink, OutSink};
 pub use stored::Stored;
+pub use stream_sink::{ErrSink, OutSink, StreamSink};
 
 #[cfg(test)]
 mod tests;

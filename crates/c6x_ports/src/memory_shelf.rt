@@ -4,7 +4,7 @@ ghost use Rattle.c6x_spec.specs.Files.{Files, Rose, file_at, front_at, stored};
 ghost use Rattle.c6x_ports.specs.Numbered.{fails_next};
 ghost use Rattle.c6x_ports.specs.Others.{KeepsOthers};
 ghost use Rattle.c6x_ports.specs.Told.{pairs_of, are_distinct};
-ghost use Rattle.c6x_ports.specs.Shelved.{Shelved, IsErrorOf, fetched, after_fetch, after_store};
+ghost use Rattle.c6x_ports.specs.MemoryShelf.{ShelfInMemory, IsErrorOf, fetched, after_fetch, after_store};
 
 use crate::found::{bytes_under, put_file};
 use crate::numbered::{is_failing, raise};
@@ -29,10 +29,10 @@ pub struct MemoryShelf {
 
 impl Model for MemoryShelf {
     ghost use Rattle.std.specs.Prelude.{IsTrue};
-    ghost use Rattle.c6x_ports.specs.Shelved.{Shelved};
+    ghost use Rattle.c6x_ports.specs.MemoryShelf.{ShelfInMemory};
     ghost use Rattle.c6x_ports.specs.Told.{pairs_of, are_distinct};
 
-    ghost Value = { Shelved };
+    ghost Value = { ShelfInMemory };
 
     ghost view = { λ s. record {
       files = pairs_of s.files.items;
@@ -81,13 +81,12 @@ impl MemoryShelf {
 impl Shelf for MemoryShelf {
     ghost use Rattle.std.specs.Prelude.{Some};
 
-    ghost files = { λ s. Some s.files };
-
-    ghost read_faults = { λ s. s.read_faults };
-
-    ghost write_faults = { λ s. s.write_faults };
-
-    ghost absences = { λ s. s.absences };
+    ghost seen = { λ s. record {
+      files = Some s.files;
+      read_faults = s.read_faults;
+      write_faults = s.write_faults;
+      absences = s.absences;
+    } };
 
     /// The trait's clauses, and two more: which result comes, and what the shelf is afterwards.
     fn fetch(&mut self, alloc: Global, name: &Name, most: u32) -> Result<Vec<u8>, ShelfError>
@@ -97,6 +96,7 @@ impl Shelf for MemoryShelf {
 
         ensures short { IfOk result (λ bytes. vec_len bytes ≤ most + 1) }
         ensures lacked { result ≡ Err ShelfError.Missing → file_at self.old.files name.now ≡ None }
+        ensures distinct { IsTrue (are_distinct self.old.files) }
         ensures read_faults_kept { self.old.read_faults ≤ self.new.read_faults }
         ensures absences_kept { self.old.absences ≤ self.new.absences }
     {
@@ -118,6 +118,7 @@ impl Shelf for MemoryShelf {
         ensures fails { (result ≡ Err ShelfError.Failed) ↔ IsTrue (fails_next self.old.failing self.old.calls) }
         ensures after { self.new ≡ after_store self.old name.now bytes.now result }
 
+        ensures distinct { IsTrue (are_distinct self.old.files) }
         ensures never_missing { result ≢ Err ShelfError.Missing }
         ensures write_faults_kept { self.old.write_faults ≤ self.new.write_faults }
     {

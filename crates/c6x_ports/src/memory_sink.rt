@@ -1,5 +1,5 @@
 ghost use Rattle.std.specs.Prelude.{◌≡◌, ◌≤◌, [], IfOk, is_ok};
-ghost use Rattle.c6x_ports.specs.Taken.{after_put, takes_all};
+ghost use Rattle.c6x_ports.specs.MemorySink.{after_put, takes_all};
 
 use crate::numbered::{is_failing, raise};
 use crate::{Sink, SinkError};
@@ -21,9 +21,9 @@ pub struct MemorySink {
 
 impl Model for MemorySink {
     ghost use Rattle.std.specs.Prelude.{◌≤◌, vec_len, vec_capacity};
-    ghost use Rattle.c6x_ports.specs.Taken.{Taken};
+    ghost use Rattle.c6x_ports.specs.MemorySink.{SinkInMemory};
 
-    ghost Value = { Taken };
+    ghost Value = { SinkInMemory };
 
     ghost view = { λ s. record {
       bytes = s.bytes.items;
@@ -69,9 +69,7 @@ impl MemorySink {
 impl Sink for MemorySink {
     ghost use Rattle.std.specs.Prelude.{Some};
 
-    ghost taken = { λ s. Some s.bytes };
-
-    ghost faults = { λ s. s.faults };
+    ghost seen = { λ s. record { bytes = Some s.bytes; faults = s.faults } };
 
     /// The trait's clauses, and two more: which result comes, and what the sink is afterwards.
     fn put(&mut self, bytes: &[u8]) -> Result<(), SinkError>

@@ -1,6 +1,5 @@
-ghost use Rattle.std.specs.Prelude.{◌≡◌, ℕ, ◌≤◌, List, [], Option, IsOk, OnOk, OnErr};
-ghost use Rattle.c6x_spec.specs.Files.{Rose};
-ghost use Rattle.c6x_spec.specs.Sinks.{Takes, TakesFront};
+ghost use Rattle.std.specs.Prelude.{◌≡◌, [], IsOk};
+ghost use Rattle.c6x_ports.specs.Sink.{Taken, Puts};
 
 use thiserror::Error;
 
@@ -17,18 +16,12 @@ pub enum SinkError {
 /// A sink may tell the bytes that it took; each clause on contents holds where it does. It counts the puts that
 /// failed. The count never falls, and it rose where it is greater afterwards or stands at 2^64 - 1.
 pub trait Sink {
-    /// The bytes taken so far, where they are told.
-    ghost taken: { Self → Option (List ℕ) };
-
-    /// How many puts have failed.
-    ghost faults: { Self → ℕ };
+    /// The bytes taken so far, where they are told, and how many puts have failed.
+    ghost seen: { Self → Taken };
 
     /// Appends these bytes. `Failed` comes only with a fault, and then a first part of them was appended. An empty piece
     /// never fails.
     fn put(&mut self, bytes: &[u8]) -> Result<(), SinkError>
-        ensures all { OnOk result (Takes bytes.now (taken self.old) (taken self.new)) }
-        ensures front { OnErr result (TakesFront bytes.now (taken self.old) (taken self.new)) }
-        ensures failed { OnErr result (Rose (faults self.old) (faults self.new)) }
-        ensures faults_kept { faults self.old ≤ faults self.new }
+        ensures puts { Puts bytes.now (seen self.old) (seen self.new) result }
         ensures empty { bytes.now ≡ [] → IsOk result };
 }

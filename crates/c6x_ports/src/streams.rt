@@ -1,5 +1,6 @@
 ghost use Rattle.std.specs.Prelude.{◌≡◌, ◌≢◌, ℕ, ◌+◌, ◌<◌, ◌≤◌, List, [], Some, IsOk, IfOk, OnOk, OnErr, take, vec_len};
 ghost use Rattle.c6x_spec.specs.Sinks.{Takes, TakesFront};
+ghost use Rattle.c6x_ports.specs.Streams.{GivesFront};
 
 use crate::ShelfError;
 use std::alloc::Global;
@@ -24,6 +25,9 @@ pub(crate) fn read_front<R: Read>(
     ensures front { (left : List ℕ) → R.remaining reader.old ≡ Some left
         → IfOk result (λ bytes. bytes.items ≡ take (most + 1) left) }
     ensures short { IfOk result (λ bytes. vec_len bytes ≤ most + 1) }
+
+    // No more than that leaves the reader, whatever the answer is.
+    ensures given { (left : List ℕ) → R.remaining reader.old ≡ Some left → GivesFront left (most + 1) (R.remaining reader.new) }
     ensures never_missing { result ≢ Err ShelfError.Missing }
 {
     let limit = most as usize + 1;

@@ -9,10 +9,13 @@ fetch-tells g c = record {
   lacked = λ told is. absurd (cc);
   missing = c.ensures.missing;
   failed = c.ensures.failed;
-  files_stay = refl;
-  write_faults_stay = c.ensures.write_faults_stay;
-  read_faults_kept = c.ensures.read_faults_kept;
-  absences_kept = c.ensures.absences_kept;
+  distinct = λ told is. absurd (cc);
+  keeps = record {
+    files = refl;
+    write_faults = c.ensures.write_faults_stay;
+    read_faults = c.ensures.read_faults_kept;
+    absences = c.ensures.absences_kept;
+  };
 }
 
 pub store-tells : goal.store-tells
@@ -22,7 +25,10 @@ store-tells g c = record {
   unchanged = λ _. refl;
   failed = c.ensures.failed;
   never_missing = c.ensures.never_missing;
-  read_faults_stay = c.ensures.read_faults_stay;
-  absences_stay = c.ensures.absences_stay;
-  write_faults_kept = c.ensures.write_faults_kept;
+  distinct = λ told is. absurd (cc);
+  keeps = record {
+    read_faults = c.ensures.read_faults_stay;
+    absences = c.ensures.absences_stay;
+    write_faults = c.ensures.write_faults_kept;
+  };
 }

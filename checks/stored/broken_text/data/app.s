@@ -1,0 +1,2 @@
+.sect ".text"
+MVQ .S1 5,A4

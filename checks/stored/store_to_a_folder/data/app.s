@@ -1,0 +1,2 @@
+.sect ".text"
+MVK .S1 5,A4

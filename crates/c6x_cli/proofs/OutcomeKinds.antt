@@ -1,0 +1,30 @@
+use Rattle.std.proofs.Common.{◌≡◌, ℕ, Bool, true, false, refl, sym, subst}
+use Rattle.std.specs.Prelude.{Option, Some}
+use Rattle.c6x_spec.specs.Memory.{Memory}
+use Rattle.c6x_ports.specs.Shelf.{Shelved}
+use Rattle.c6x_cli_steps.specs.Statuses.{IsOfKind, Performs}
+use Rattle.c6x_cli_steps.specs.Stores.{KeepsWriteFaults}
+use Rattle.c6x_cli_steps.specs.World.{World}
+use Rattle.c6x_cli.specs.declared.prepared.Prepared.{Prepared}
+use Rattle.c6x_cli.specs.declared.prepared.Prepared.TheVariants.{Map as PreparedMap, Run as PreparedRun, Store}
+use Rattle.c6x_cli.specs.declared.request.Request.{Request}
+use Rattle.c6x_cli.specs.Meaning.{is_store, outcome_of, steps_of}
+use Rattle.c6x_cli.specs.Requests.{is_storing}
+
+-- the outcome of a prepared command is of its kind
+is_of_kind : (prepared : Prepared) (board : Memory) → IsOfKind (is_store prepared) board (outcome_of prepared board)
+is_of_kind (PreparedMap placed) board = refl
+is_of_kind (PreparedRun ready) board = refl
+is_of_kind (Store name bytes) board = (name, (bytes, refl))
+
+pub kind_of_outcome : (prepared : Prepared) (board : Memory) (storing : Bool) → is_store prepared ≡ storing → IsOfKind storing board (outcome_of prepared board)
+kind_of_outcome prepared board storing is =
+    subst (λ kind. IsOfKind kind board (outcome_of prepared board)) is (is_of_kind prepared board)
+
+-- what a request performs, words with that reading perform
+pub performs_read : (read : Option Request) (request : Request) (board : Memory) (status : ℕ) (before after : World) → read ≡ Some request → Performs (λ told. steps_of (Some request) told board) (is_storing (Some request)) status before after → Performs (λ told. steps_of read told board) (is_storing read) status before after
+performs_read read request board status before after is performs =
+    subst (λ r. Performs (λ told. steps_of r told board) (is_storing r) status before after) (sym is) performs
+
+pub faults_of_kind : (prepared : Prepared) (storing : Bool) (before after : Shelved) → is_store prepared ≡ storing → KeepsWriteFaults (is_store prepared) before after → KeepsWriteFaults storing before after
+faults_of_kind prepared storing before after is keeps = subst (λ kind. KeepsWriteFaults kind before after) is keeps

@@ -1,0 +1,3 @@
+pub mod SlotLines
+pub mod Slots
+pub mod Runs

@@ -1,0 +1,4 @@
+pub mod Placing
+pub mod Report
+pub mod Run
+pub mod Stages

@@ -1,0 +1,4 @@
+pub mod Fetched
+pub mod Chains
+pub mod Stages
+pub mod Performs

@@ -1,0 +1,7 @@
+pub mod World
+pub mod Stages
+pub mod Steps
+pub mod Lines
+pub mod Stores
+pub mod Exits
+pub mod Statuses

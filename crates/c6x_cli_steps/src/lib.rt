@@ -1,0 +1,20 @@
+//! What all commands of `c6x` are made of: steps over a shelf of files, the errors that stop them, the line and the status
+//! of each, and what a command leaves.
+//!
+//! Nothing here knows what a command reads or makes. A crate of commands says in its own definitions what its steps come
+//! to (`Steps`) and what it leaves (`Outcome`), and proves its calls against the words of this crate.
+#![tactic(auto)]
+
+mod cause;
+mod commit_error;
+mod diagnostics;
+mod files;
+mod prepare_error;
+mod refusals;
+
+pub use cause::{Cause, Refusal};
+pub use commit_error::CommitError;
+pub use diagnostics::{report_error, report_write_fault};
+pub use files::{fetch_file, fetch_whole};
+pub use prepare_error::PrepareError;
+pub use refusals::{elf_label, label, refuse, refuse_unbuilt};
