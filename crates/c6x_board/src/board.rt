@@ -1,10 +1,13 @@
 ghost use Rattle.std.specs.Prelude.{◌≡◌, ℕ, ◌-◌, ◌≤◌, [], ◌∷◌, length, IfOk, replicate, false};
 ghost use Rattle.std.specs.Int.{to_le_bytes, w16, w32};
 ghost use Rattle.c6x_spec.specs.Memory.{Memory, CanStart, IsOnMemory, written, byte_in};
+ghost use Rattle.c6x_board.specs.Lane.{LieOn};
 ghost use Rattle.c6x_board.specs.Written.{IsWritten};
 ghost use Rattle.c6x_spec.specs.Numbers.{half_at, word_at};
 
+use crate::lane::Lane;
 use crate::splices::{byte_held, clear_held, half_held, put_at, reach, word_held};
+use c6x_access::Map;
 use std::alloc::{AllocError, Global};
 use std::marker::Model;
 
@@ -127,6 +130,16 @@ impl Board {
     {
         let from = self.place(at);
         clear_held(&mut self.bytes, from, len as usize);
+    }
+
+    /// The lane of this board and of these areas, which lie on it.
+    pub fn lend<'a>(&'a mut self, map: &'a Map) -> Lane<'a>
+        requires { LieOn self.old map.now }
+        ensures same_board { result.board.ghost_name ≡ self.entry.ghost_name }
+        ensures board { result.board.now ≡ self.old }
+        ensures map { result.map.now ≡ map.now }
+    {
+        Lane { board: self, map }
     }
 
     /// The position of an address among the bytes.
