@@ -1,20 +1,21 @@
-use Rattle.std.specs.Prelude.{◌≡◌, ℕ, ◌+◌, true, List, [], ◌++◌, codes, decimal, length, map, slice_index, Option, None, Some, if◌then◌else◌}
+use Rattle.std.specs.Prelude.{◌≡◌, ℕ, ◌+◌, true, false, List, [], ◌++◌, codes, decimal, length, map, slice_index, Option, None, Some, if◌then◌else◌}
 use Rattle.std.specs.List.{range_with_len}
 use Rattle.c6x_spec.specs.Memory.{Memory, byte_in}
 use Rattle.c6x_spec.specs.Printed.{hex_word}
-use Rattle.c6x_base.specs.declared.range.Range.{Range}
-use Rattle.c6x_exec.specs.declared.end.End.{End}
-use Rattle.c6x_exec.specs.declared.end.End.TheVariants.{Exit, Fault, Limit}
-use Rattle.c6x_exec.specs.declared.fault_kind.FaultKind.{FaultKind}
-use Rattle.c6x_exec.specs.declared.fault_kind.FaultKind.TheVariants.{TwoBranches, Fetch, BadWord, BadPacket, BadRead, BadWrite, Misaligned, TwoStores, TwoWrites, OutputFull}
+use Rattle.c6x_machine.specs.declared.end.End.{End}
+use Rattle.c6x_machine.specs.declared.end.End.TheVariants.{Exit, Fault, Limit}
+use Rattle.c6x_machine.specs.declared.fault_kind.FaultKind.{FaultKind}
+use Rattle.c6x_machine.specs.declared.fault_kind.FaultKind.TheVariants.{TwoBranches, Fetch, BadWord, BadPacket, BadRead, BadWrite, Misaligned, TwoStores, TwoWrites, OutputFull}
 use Rattle.c6x_exec.specs.declared.process.Process.{Process}
-use Rattle.c6x_exec.specs.declared.start.Start.{Start}
-use Rattle.c6x_exec.specs.Area.{Area, areas_of, is_own, HoldsBytes}
-use Rattle.c6x_exec.specs.History.{Effect, byte_at, output_of}
-use Rattle.c6x_exec.specs.Machine.{Life, alone, life}
-use Rattle.c6x_exec.specs.Origin.{Origin, origin_of}
-use Rattle.c6x_exec.specs.Process.{StandsFor, text_of}
-use Rattle.c6x_load.specs.Start.{launch_of, start_byte}
+use Rattle.c6x_machine.specs.declared.start.Start.{Start}
+use Rattle.c6x_access.specs.declared.area.Area.{Area}
+use Rattle.c6x_access.specs.Rights.{is_own}
+use Rattle.c6x_exec.specs.Stands.{HoldsBytes}
+use Rattle.c6x_machine.specs.History.{Effect, byte_at, output_of}
+use Rattle.c6x_machine.specs.Machine.{Life, alone, life}
+use Rattle.c6x_machine.specs.Origin.{Origin, origin_of}
+use Rattle.c6x_exec.specs.Process.{StandsFor, areas_of}
+use Rattle.c6x_load.specs.Start.{launch_of, start_byte, areas_of_one}
 use Rattle.c6x_cli_run.specs.declared.placed_process.PlacedProcess.{PlacedProcess}
 use Rattle.c6x_cli_run.specs.declared.ready_process.ReadyProcess.{ReadyProcess}
 use Rattle.c6x_cli_run.specs.Placing.{IsPlaced}
@@ -25,21 +26,12 @@ start_of placed =
     let launch = launch_of placed.image placed.plan.stack placed.one in
     record { entry = launch.entry; b14 = launch.b14; b15 = launch.b15; arg = placed.plan.arg; limit = placed.plan.limit }
 
-abbrev pub text_range : PlacedProcess → Range
-text_range placed = record { lo = placed.one.text; len = placed.image.text.memsz }
-
-abbrev pub data_range : PlacedProcess → Range
-data_range placed = record { lo = placed.one.data; len = placed.image.memory.memsz }
-
-abbrev pub stack_range : PlacedProcess → Range
-stack_range placed = record { lo = placed.one.stack; len = placed.plan.stack }
-
--- Its areas: the text may be read and run, the data range and the stack read and written.
+-- Its areas.
 abbrev pub areas_of_process : PlacedProcess → List Area
-areas_of_process placed = areas_of (text_range placed) (data_range placed) (stack_range placed)
+areas_of_process placed = areas_of_one placed.image placed.plan.stack placed.one
 
 abbrev pub origin_of_process : PlacedProcess → Origin
-origin_of_process placed = origin_of (start_of placed) (start_byte placed.image placed.one) (areas_of_process placed)
+origin_of_process placed = origin_of false (start_of placed) (start_byte placed.image placed.one) (areas_of_process placed)
 
 -- The process where it has ended: alone, after as many cycles as its limit, since nothing changes after its end.
 abbrev pub last_of : PlacedProcess → Life
@@ -109,7 +101,7 @@ pub record HoldsEnd (placed : PlacedProcess) (board : Memory) : Type 0 where
 -- A process before its first cycle, wherever the start bytes are on a board.
 pub record IsFresh (placed : PlacedProcess) (process : Process) : Type 0 where
   pub stands : (board : Memory) → HoldsBytes board (start_byte placed.image placed.one) (areas_of_process placed) → StandsFor process board (origin_of_process placed) 0
-  pub text : text_of process ≡ text_range placed
+  pub areas : areas_of process ≡ areas_of_process placed
 
 -- A process that is placed on a board and fresh.
 pub record IsReady (board : Memory) (ready : ReadyProcess) : Type 0 where

@@ -12,11 +12,11 @@ ghost use Rattle.c6x_cli_run.specs.Run.{IsFresh, IsReady};
 
 use crate::placed_process::PlacedProcess;
 use crate::ready_process::ReadyProcess;
-use c6x_base::{Name, Range};
+use c6x_base::Name;
 use c6x_board::Board;
 use c6x_cli_steps::{PrepareError, fetch_file, refuse_unbuilt};
 use c6x_exec::{Process, Start};
-use c6x_load::{One, launch_one, place_one};
+use c6x_load::{One, launch_one, map_one, place_one};
 use c6x_module::{Module, PlainError, read_plain};
 use c6x_plan::{PlainPlan, PlainPlanError, read_plain_plan};
 use c6x_ports::Shelf;
@@ -129,7 +129,7 @@ fn one_of(
 }
 
 /// The process, before its first cycle.
-#[tactic(auto, using(c6x_exec::proofs::Areas::runs_in_text, crate::proofs::Slots::ends_below), unfolding(c6x_load::specs::Start::launch_of))]
+#[tactic(auto, using(crate::proofs::Slots::ends_below), unfolding(c6x_load::specs::Start::launch_of))]
 fn new_process(
     alloc: Global,
     placed: &PlacedProcess,
@@ -148,12 +148,7 @@ fn new_process(
         arg: plan.arg,
         limit: plan.limit,
     };
-    let text = Range {
-        lo: one.text,
-        len: image.text.memsz,
-    };
-    match Process::new(alloc, start, text) {
-        Ok(process) => Ok(process),
-        Err(_) => Err(PrepareError::Memory),
-    }
+    let map = map_one(alloc, image, plan.stack, one)?;
+    let process = Process::new(alloc, start, map)?;
+    Ok(process)
 }

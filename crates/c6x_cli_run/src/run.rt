@@ -1,6 +1,7 @@
 ghost use Rattle.std.specs.Prelude.{◌≡◌};
-ghost use Rattle.c6x_spec.specs.Memory.{IsOnMemory};
-ghost use Rattle.c6x_exec.specs.Area.{HoldsBytes};
+ghost use Rattle.c6x_board.specs.Lane.{LieOn};
+ghost use Rattle.c6x_exec.specs.Fits.{IsFramed};
+ghost use Rattle.c6x_exec.specs.Stands.{HoldsBytes};
 ghost use Rattle.c6x_load.specs.Start.{start_byte};
 ghost use Rattle.c6x_ports.specs.Sink.{Puts};
 ghost use Rattle.c6x_cli_steps.specs.Stages.{PutsStages};
@@ -20,7 +21,7 @@ use itoa::Buffer;
 
 /// Writes the process's start bytes to the board, lists where everything stands, runs the process to its end and tells
 /// how it ended. Nothing runs where the lines on where everything stands could not be put.
-#[tactic(auto, using(crate::proofs::Runs::bytes_are_held, crate::proofs::Runs::text_on_board))]
+#[tactic(auto, using(crate::proofs::Runs::bytes_are_held, crate::proofs::Runs::areas_on_board))]
 pub fn put_run<O: Sink>(
     ready: ReadyProcess,
     out: &mut O,
@@ -45,11 +46,11 @@ fn put_life<O: Sink>(
     out: &mut O,
     board: &mut Board,
 ) -> Result<(), SinkError>
-    requires text { IsOnMemory board.old placed.now.one.text placed.now.image.text.memsz }
+    requires on_board { LieOn board.old (areas_of_process placed.now) }
     requires fresh { IsFresh placed.now process.old }
     requires start { HoldsBytes board.old (start_byte placed.now.image placed.now.one) (areas_of_process placed.now) }
-    ensures board { board.new ≡ board.old }
-    ensures bytes { HoldsEnd placed.now board.old }
+    ensures frame { IsFramed (areas_of_process placed.now) board.old board.new }
+    ensures bytes { HoldsEnd placed.now board.new }
     ensures puts { Puts (life_line placed.now) (O.seen out.old) (O.seen out.new) result }
 {
     let end = run_to_end(process, board);

@@ -1,83 +1,117 @@
--- The word that is fetched is the packet's.
-use Rattle.std.proofs.Common.{◌≡◌, ℕ, ◌+◌, ◌-◌, ◌%◌, ◌^◌, ◌<◌, ◌≤◌, inl, inr, List, [], ◌∷◌, refl, ◌∙◌, arith, add-zero, Some, None, Ok, Err, Bool, true, false, ◌&&◌, ◌||◌}
-use Rattle.std.specs.Prelude.{◌==◌, slice_index, if◌then◌else◌}
+-- The words of a packet, fetched one by one.
+use Rattle.std.proofs.Common.{◌≡◌, ◌≢◌, ℕ, suc, ◌+◌, ◌-◌, ◌%◌, ◌*◌, ◌^◌, ◌<◌, ◌≤◌, List, [], ◌∷◌, ◌++◌, length, take, set, refl, sym, ◌∙◌, ap, arith, Result, Ok, Err, Bool, true, false, append_assoc, length-set, inl, inr, get_or-set_same, get_or-set_other, append-nil}
+use Rattle.std.specs.Prelude.{◌==◌, slice_index}
 use Rattle.std.proofs.lemmas.Bool.{cases_eq}
 use Rattle.std.proofs.lemmas.Bool.Decides.{nat_tests}
-use Rattle.c6x_spec.specs.Memory.{Memory, IsOnMemory, byte_in}
-use Rattle.c6x_spec.specs.Numbers.{word_at}
-use Rattle.c6x_base.specs.declared.range.Range.{Range}
-use Rattle.c6x_exec.specs.Area.{Area, Right, Runs, has_right, is_inside, allowed, may_access, is_own, RunsIn}
-use Rattle.c6x_exec.specs.Fetched.{holds_word, word_in, words_in}
-use Rattle.c6x_exec.specs.History.{Effect, byte_at, number_at}
-use Rattle.c6x_exec.specs.Origin.{Origin}
-use Rattle.c6x_exec.specs.Packet.{longest, with_word, words_of}
+use Rattle.std.proofs.lemmas.List.{take_more_set, places}
+use Rattle.std.proofs.lemmas.Grind.{common_steps}
+use Rattle.c6x_packet.specs.Packets.{IsChain}
+use Rattle.c6x_exec.specs.Fetched.{after_front}
+use Rattle.c6x_access.specs.declared.area.Area.{Area}
+use Rattle.c6x_access.specs.declared.right.Right.{Right}
+use Rattle.c6x_access.specs.declared.right.Right.TheVariants.{Run}
+use Rattle.c6x_access.specs.Laws.{IsAccess}
+use Rattle.c6x_access.specs.Rights.{may_access}
+use Rattle.c6x_access.proofs.Bytes.{is_access, may_be_accessed, may_within}
+use Rattle.c6x_machine.specs.Packet.{IsChainOf, past, prepend, chain_by, may_run}
 
-own_step : (right inside rest own : Bool) → ((right && inside) || rest) ≡ true → (rest ≡ true → own ≡ true) → (inside || own) ≡ true
-own_step right true rest own is more = refl
-own_step true false rest own is more = more is
-own_step false false rest own is more = more is
+-- the words so far and those that come are the words of the chain; each so far goes on
+pub record Chaining (may : ℕ → Bool) (word : ℕ → ℕ) (at most : ℕ) (words : List ℕ) (from place : ℕ) : Type 0 where
+  pub room : length words ≡ 8
+  pub chained : (k : ℕ) → k < place → slice_index words k % 2 ≡ 1
+  pub here : from ≡ (at + 4 * place) % 2 ^ 32
+  pub given : after_front (take place words) (chain_by may word from (most - place)) ≡ chain_by may word at most
 
--- a byte that may be used is the process's own
-pub allowed_own : (areas : List Area) (right : Right) (x : ℕ) → allowed areas right x ≡ true → is_own areas x ≡ true
-allowed_own [] right x is = is
-allowed_own (area ∷ areas) right x is = own_step (has_right area right) (is_inside area.lo area.len x) (allowed areas right x) (is_own areas x) is (allowed_own areas right x)
+front_one : (front : List ℕ) (w : ℕ) (rest : Result (List ℕ) ℕ) → after_front front (prepend w rest) ≡ after_front (front ++ w ∷ []) rest
+front_one front w (Ok words) = ap Ok (sym (append_assoc front (w ∷ []) words))
+front_one front w (Err bad) = refl
 
-four : (w x y z : Bool) → (w && (x && (y && (z && true)))) ≡ (w && (x && (y && z)))
-four true true true true = refl
-four true true true false = refl
-four true true false z = refl
-four true false y z = refl
-four false x y z = refl
+one_more : (may : ℕ → Bool) (word : ℕ → ℕ) (from left : ℕ) (front : List ℕ) (w : ℕ) → may from ≡ true → w ≡ word from → w % 2 ≢ 0 → after_front front (chain_by may word from (suc left)) ≡ after_front (front ++ w ∷ []) (chain_by may word (past from 4) left)
+one_more may word from left front w ok is odd =
+    let test : (w % 2 == 0) ≡ false = grind (arith, nat_tests) in
+    rw (ok, ← is, test) (front_one front w (chain_by may word (past from 4) left))
 
--- a word may be run where it lies in the text
-may_run : (areas : List Area) (text : Range) (at : ℕ) → RunsIn areas text → at % 4 ≡ 0 → at < 2 ^ 32 → may_access areas Runs at 4 ≡ holds_word text at
-unfolding may_access holds_word
-may_run areas text at runs aligned below = rw (runs at, runs (at + 1), runs (at + 1 + 1), runs (at + 1 + 1 + 1)) (grind (arith, nat_tests))
+last_one : (may : ℕ → Bool) (word : ℕ → ℕ) (from left : ℕ) (front : List ℕ) (w : ℕ) → may from ≡ true → w ≡ word from → w % 2 ≡ 0 → after_front front (chain_by may word from (suc left)) ≡ Ok (front ++ w ∷ [])
+last_one may word from left front w ok is even =
+    let test : (w % 2 == 0) ≡ true = grind (arith, nat_tests) in
+    rw (ok, ← is, test) refl
 
--- the number of four bytes that the board holds
-number_on : (start : ℕ → ℕ) (h : List Effect) (n at base : ℕ) (bytes : List ℕ) → base ≤ at → ((x : ℕ) → at ≤ x → x < at + 4 → slice_index bytes (x - base) ≡ byte_at start h n x) → number_at start h n at 4 ≡ word_at false bytes (at - base)
-unfolding word_at
-number_on start h n at base bytes above held =
-    let b0 : slice_index bytes (at - base) ≡ byte_at start h n at = held at (omega arith) (omega arith) in
-    let b1 : slice_index bytes (at + 1 - base) ≡ byte_at start h n (at + 1) = held (at + 1) (omega arith) (omega arith) in
-    let b2 : slice_index bytes (at + 1 + 1 - base) ≡ byte_at start h n (at + 1 + 1) = held (at + 1 + 1) (omega arith) (omega arith) in
-    let b3 : slice_index bytes (at + 1 + 1 + 1 - base) ≡ byte_at start h n (at + 1 + 1 + 1) = held (at + 1 + 1 + 1) (omega arith) (omega arith) in
-    let p1 : at + 1 - base ≡ at - base + 1 = omega arith in
-    let p2 : at + 1 + 1 - base ≡ at - base + 2 = omega arith in
-    let p3 : at + 1 + 1 + 1 - base ≡ at - base + 3 = omega arith in
-    rw (← b0, ← b1, ← b2, ← b3, p1, p2, p3, add-zero) refl
+no_more : (may : ℕ → Bool) (word : ℕ → ℕ) (from left : ℕ) (front : List ℕ) → may from ≡ false → after_front front (chain_by may word from (suc left)) ≡ Err from
+no_more may word from left front bad = rw bad refl
 
-alike : {A : Type 0} (test : Bool) (x : A) → (if test then x else x) ≡ x
-alike true x = refl
-alike false x = refl
+pub chaining_next : (may : ℕ → Bool) (word : ℕ → ℕ) (at most : ℕ) (words : List ℕ) (from place w : ℕ) → place < most → most ≤ 8 → Chaining may word at most words from place → may from ≡ true → w ≡ word from → w % 2 ≢ 0 → Chaining may word at most (set words place w) (past from 4) (place + 1)
+chaining_next may word at most words from place w within few k ok is odd =
+    let left : most - place ≡ suc (most - (place + 1)) = omega arith in
+    let room : length words ≡ 8 = k.room in
+    record {
+      room = length-set words place w ∙ k.room;
+      chained = λ i below. elim (cases_eq i place) [
+        | inl here ↦
+            let new : slice_index (set words place w) place ≡ w = get_or-set_same words place w 0 (omega arith) in
+            rw (here, new) (omega arith)
+        | inr before ↦
+            let kept : slice_index (set words place w) i ≡ slice_index words i = get_or-set_other words place i w 0 before in
+            rw kept (k.chained i (omega arith))
+      ];
+      here = let old : from ≡ (at + 4 * place) % 2 ^ 32 = k.here in omega arith;
+      given =
+          ap (λ (front : List ℕ). after_front front (chain_by may word (past from 4) (most - (place + 1)))) (take_more_set words place w (omega arith))
+          ∙ sym (one_more may word from (most - (place + 1)) (take place words) w ok is odd)
+          ∙ ap (λ (n : ℕ). after_front (take place words) (chain_by may word from n)) (sym left)
+          ∙ k.given;
+    }
 
-one_word : (word at : ℕ) (may : Bool) → (if may then with_word word (Ok []) else Err at) ≡ (if may then Ok (word ∷ []) else Err at)
-one_word word at false = refl
-one_word word at true = alike (word % 2 == 0) (Ok (word ∷ []))
+pub chaining_bad : (may : ℕ → Bool) (word : ℕ → ℕ) (at most : ℕ) (words : List ℕ) (from place : ℕ) → place < most → Chaining may word at most words from place → may from ≡ false → Err from ≡ chain_by may word at most
+chaining_bad may word at most words from place within k bad =
+    let left : most - place ≡ suc (most - (place + 1)) = omega arith in
+    sym (no_more may word from (most - (place + 1)) (take place words) bad)
+    ∙ ap (λ (n : ℕ). after_front (take place words) (chain_by may word from n)) (sym left)
+    ∙ k.given
 
-by_inside : (inside : Bool) (number word at : ℕ) → (inside ≡ true → number ≡ word) → (if inside then Ok (number ∷ []) else Err at) ≡ words_in (if inside then Some word else None) at
-by_inside true number word at is = rw (is refl) refl
-by_inside false number word at is = refl
+pub chaining_last : (may : ℕ → Bool) (word : ℕ → ℕ) (at most : ℕ) (words : List ℕ) (from place w : ℕ) → place < most → most ≤ 8 → Chaining may word at most words from place → may from ≡ true → w ≡ word from → w % 2 ≡ 0 → Ok (take (place + 1) (set words place w)) ≡ chain_by may word at most
+chaining_last may word at most words from place w within few k ok is even =
+    let left : most - place ≡ suc (most - (place + 1)) = omega arith in
+    let room : length words ≡ 8 = k.room in
+    ap Ok (take_more_set words place w (omega arith))
+    ∙ sym (last_one may word from (most - (place + 1)) (take place words) w ok is even)
+    ∙ ap (λ (n : ℕ). after_front (take place words) (chain_by may word from n)) (sym left)
+    ∙ k.given
 
-inside_own : (areas : List Area) (text : Range) (at x : ℕ) → RunsIn areas text → holds_word text at ≡ true → at ≤ x → x < at + 4 → is_own areas x ≡ true
-unfolding holds_word
-inside_own areas text at x runs holds from to =
-    let inside : is_inside text.lo text.len x ≡ true = grind (arith, nat_tests) in
-    allowed_own areas Runs x (runs x ∙ inside)
+back : (front : List ℕ) → Ok front ≡ after_front front (Ok [])
+back front = ap Ok (sym (append-nil front))
 
-text_above : (text : Range) (at base : ℕ) → base ≤ text.lo → holds_word text at ≡ true → base ≤ at
-unfolding holds_word
-text_above text at base above holds = grind (arith, nat_tests)
+pub chaining_full : (may : ℕ → Bool) (word : ℕ → ℕ) (at most : ℕ) (words : List ℕ) (from : ℕ) → Chaining may word at most words from most → Ok (take most words) ≡ chain_by may word at most
+chaining_full may word at most words from k =
+    let none : most - most ≡ 0 = omega arith in
+    back (take most words) ∙ ap (λ (n : ℕ). after_front (take most words) (chain_by may word from n)) (sym none) ∙ k.given
 
-pub words_fetched : (s : Origin) (h : List Effect) (n at : ℕ) (text : Range) (b : Memory) → RunsIn s.areas text → at < 2 ^ 32 → IsOnMemory b text.lo text.len → ((x : ℕ) → is_own s.areas x ≡ true → byte_in b x ≡ byte_at s.bytes h n x) → words_of s h n at ≡ words_in (word_in text b at) at
-unfolding words_of longest word_in
-words_fetched s h n at text b runs below on_board held = elim (cases_eq (at % 4) 0) [
-  | inl aligned ↦
-      let test : (at % 4 == 0) ≡ true = grind (arith, nat_tests) in
-      rw (test, one_word, may_run s.areas text at runs aligned below)
-      (by_inside (holds_word text at) (number_at s.bytes h n at 4) (word_at false b.bytes (at - b.base)) at
-      (λ holds. number_on s.bytes h n at b.base b.bytes (text_above text at b.base on_board.above holds) (λ x from to. held x (inside_own s.areas text at x runs holds from to))))
-  | inr apart ↦
-      let test : (at % 4 == 0) ≡ false = grind (arith, nat_tests) in
-      rw test refl
-]
+-- the words of the loop are a chain
+pub chain_last : (most place w : ℕ) (words : List ℕ) → length words ≡ 8 → place < most → most ≤ 8 → ((k : ℕ) → k < place → slice_index words k % 2 ≡ 1) → w % 2 ≡ 0 → IsChainOf most (take (place + 1) (set words place w))
+chain_last most place w words room within few chained even = record {
+  few = grind (arith, common_steps);
+  some = λ any. grind (arith, common_steps);
+  chained = λ k below. let old : k < place → slice_index words k % 2 ≡ 1 = chained k in grind (arith, common_steps, places);
+  last = λ short. grind (arith, common_steps, places);
+}
+
+pub chain_full : (most : ℕ) (words : List ℕ) → length words ≡ 8 → most ≤ 8 → ((k : ℕ) → k < most → slice_index words k % 2 ≡ 1) → IsChainOf most (take most words)
+chain_full most words room few chained = record {
+  few = grind (arith, common_steps);
+  some = λ any. grind (arith, common_steps);
+  chained = λ k below. let old : k < most → slice_index words k % 2 ≡ 1 = chained k in grind (arith, common_steps, places);
+  last = λ short. absurd (grind (arith, common_steps));
+}
+
+-- a part of an access that may be made
+part_may : (areas : List Area) (right : Right) (at size k len : ℕ) → may_access areas right at size ≡ true → k + len ≤ size → may_access areas right (at + k) len ≡ true
+part_may areas right at size k len may within =
+    let whole : IsAccess areas right at size = is_access areas right at size may in
+    let low : at + size ≤ 2 ^ 32 = whole.within in
+    may_be_accessed areas right (at + k) len (record { within = omega arith; each = λ x from to. whole.each x (omega arith) (omega arith) })
+
+pub open_run : (areas : List Area) (at from place most : ℕ) (known : Bool) → known ≡ may_access areas Run at (4 * most) → from ≡ (at + 4 * place) % 2 ^ 32 → place < most → known ≡ true → may_run areas from ≡ true
+open_run areas at from place most known is here below yes_known =
+    let may : may_access areas Run at (4 * most) ≡ true = sym is ∙ yes_known in
+    let low : at + 4 * most ≤ 2 ^ 32 = may_within areas Run at (4 * most) may in
+    let same : from ≡ at + 4 * place = omega arith in
+    rw same (part_may areas Run at (4 * most) (4 * place) 4 may (omega arith))

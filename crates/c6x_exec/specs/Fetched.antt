@@ -1,17 +1,17 @@
--- The word that the code fetches from the board.
-use Rattle.std.specs.Prelude.{ℕ, ◌+◌, ◌-◌, ◌%◌, ◌==◌, ◌&&◌, nat_le, List, [], ◌∷◌, Option, None, Some, Result, Ok, Err, Bool, false, if◌then◌else◌}
-use Rattle.c6x_spec.specs.Memory.{Memory}
-use Rattle.c6x_spec.specs.Numbers.{word_at}
-use Rattle.c6x_base.specs.declared.range.Range.{Range}
+-- The words that the code fetches from the board.
+use Rattle.std.specs.Prelude.{◌≡◌, ℕ, ◌+◌, ◌-◌, ◌%◌, ◌<◌, ◌≤◌, List, ◌++◌, length, slice_index, Result, Ok, Err, false}
+use Rattle.c6x_spec.specs.Memory.{Memory, byte_in}
+use Rattle.c6x_access.specs.declared.area.Area.{Area}
+use Rattle.c6x_machine.specs.History.{number_of}
+use Rattle.c6x_machine.specs.Packet.{may_run, words_by}
 
--- the four bytes at an address lie in the text
-unfoldable pub holds_word : Range → ℕ → Bool
-holds_word text at = nat_le text.lo at && nat_le (at + 4) (text.lo + text.len)
+abbrev pub number_in : Memory → ℕ → ℕ → ℕ
+number_in m at size = number_of false (λ x. byte_in m x) at size
 
-unfoldable pub word_in : Range → Memory → ℕ → Option ℕ
-word_in text m at = if at % 4 == 0 && holds_word text at then Some (word_at false m.bytes (at - m.base)) else None
+abbrev pub words_in : List Area → Memory → ℕ → Result (List ℕ) ℕ
+words_in areas m at = words_by (may_run areas) (λ x. number_in m x 4) at
 
--- the words of a packet of one word, or the address that may not be run
-abbrev pub words_in : Option ℕ → ℕ → Result (List ℕ) ℕ
-words_in None at = Err at
-words_in (Some word) at = Ok (word ∷ [])
+-- words before those that come
+abbrev pub after_front : List ℕ → Result (List ℕ) ℕ → Result (List ℕ) ℕ
+after_front front (Ok words) = Ok (front ++ words)
+after_front front (Err bad) = Err bad

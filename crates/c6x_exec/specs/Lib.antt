@@ -1,12 +1,7 @@
-pub mod History
-pub mod Area
-pub mod Origin
-pub mod Packet
-pub mod Machine
 pub mod Pending
+pub mod View
 pub mod Stands
 pub mod Sound
 pub mod Fits
 pub mod Fetched
 pub mod Process
-pub mod Laws

@@ -1,30 +1,28 @@
 //! The machine of one process: its packets, delayed effects, waits and faults, cycle by cycle.
-//!
-//! A [`Process`] keeps no history. Its contracts say that it and a board stand for an origin and a count of cycles, whose
-//! history, count and end are those of the definitions in `specs/`.
 #![tactic(auto)]
 
 mod address;
-mod carry;
-mod end;
-mod fault_kind;
+mod chain;
+mod context;
+mod cycle_end;
+mod destinations;
+mod execute;
+mod faults;
 mod fetch;
-mod finish;
-mod fresh;
 mod gate;
-mod instruction;
-mod landing;
-mod laws;
+mod initial;
+mod limits;
+mod memory;
+mod note;
 mod pending;
+mod pending_slots;
 mod process;
+mod put;
+mod register_file;
+mod rows;
 mod run;
-mod start;
-mod state;
 mod step;
 
-pub use end::End;
-pub use fault_kind::FaultKind;
-pub use laws::{cycles_count, ends_stay, registers_are_last_writes};
+pub use c6x_machine::{End, FaultKind, Start};
 pub use process::Process;
-pub use run::{cycle, run_to_end};
-pub use start::Start;
+pub use run::{Ran, cycle, run_cycles, run_to_end};

@@ -1,49 +1,51 @@
 ghost use Rattle.c6x_exec.specs.Sound.{IsSound, IsWithin};
 
-use crate::end::End;
-use crate::fresh::fresh_state;
-use crate::start::Start;
-use crate::state::State;
+use crate::context::Context;
+use crate::initial::initial_context;
+use crate::limits::MOST_OUTPUT;
 use crate::step::advance;
-use c6x_base::{Range, Side};
+use c6x_access::Map;
+use c6x_base::Side;
 use c6x_board::Board;
+use c6x_machine::{End, Start};
 use std::alloc::{AllocError, Global};
 
-/// How many bytes of output a process has room for.
-const MOST_OUTPUT: usize = 65_536;
-
-/// A process: its registers, what is to land in them, its text and its output. It keeps no memory of its own, and is told
+/// A process: its areas, its registers, what is to land in them, and its output. It keeps no memory of its own, and is told
 /// the board at each cycle.
 #[derive(Drop)]
 pub struct Process {
-    inner: State,
-    ghost sound: { IsSound inner },
-    ghost within: { IsWithin inner },
+    map: Map,
+    context: Context,
+    ghost sound: { IsSound context },
+    ghost within: { IsWithin context },
 }
 
 impl Process {
-    ghost use Rattle.std.specs.Prelude.{◌≡◌, ℕ, ◌+◌, ◌<◌, ◌≤◌, List, IfOk, None, Some};
-    ghost use Rattle.c6x_spec.specs.Memory.{Memory, IsOnMemory};
+    ghost use Rattle.std.specs.Prelude.{◌≡◌, ℕ, ◌+◌, ◌<◌, ◌≤◌, List, IfOk, None, Some, false};
+    ghost use Rattle.c6x_spec.specs.Memory.{Memory};
     ghost use Rattle.c6x_instr.specs.Registers.{place_of};
-    ghost use Rattle.c6x_exec.specs.declared.end.End.{End};
-    ghost use Rattle.c6x_exec.specs.Area.{Area, RunsIn, HoldsBytes};
-    ghost use Rattle.c6x_exec.specs.History.{register_at, output_of};
-    ghost use Rattle.c6x_exec.specs.Machine.{alone, life};
-    ghost use Rattle.c6x_exec.specs.Origin.{Origin, origin_of};
-    ghost use Rattle.c6x_exec.specs.Process.{text_of, ended_of, cycles_of, limit_of, StandsFor, HasRun};
+    ghost use Rattle.c6x_machine.specs.declared.end.End.{End};
+    ghost use Rattle.c6x_exec.specs.Stands.{HoldsBytes};
+    ghost use Rattle.c6x_board.specs.Lane.{LieOn};
+    ghost use Rattle.c6x_exec.specs.Fits.{IsFramed};
+    ghost use Rattle.c6x_machine.specs.History.{register_at, output_of};
+    ghost use Rattle.c6x_machine.specs.Machine.{alone, life};
+    ghost use Rattle.c6x_machine.specs.Origin.{Origin, most_cycles, origin_of};
+    ghost use Rattle.c6x_exec.specs.Process.{areas_of, ended_of, cycles_of, limit_of, StandsFor, HasRun};
 
-    /// A process before its first cycle, of which the words of `text` alone may be run. Its output has room for 65,536
-    /// bytes, and none of its cycles takes memory.
-    pub fn new(alloc: Global, start: Start, text: Range) -> Result<Process, AllocError>
+    /// A process before its first cycle, with these areas. Its output has room for 65,536 bytes, and none of its cycles
+    /// takes memory.
+    #[tactic(auto, unfolding(c6x_machine::specs::Origin::most_output))]
+    pub fn new(alloc: Global, start: Start, map: Map) -> Result<Process, AllocError>
         requires some { 1 ≤ start.limit }
-        requires most { start.limit ≤ 10000000 }
-        ensures stands { IfOk result (λ process. (b : Memory) (bytes : ℕ → ℕ) (areas : List Area) → RunsIn areas text → HoldsBytes b bytes areas → StandsFor process b (origin_of start bytes areas) 0) }
-        ensures text { IfOk result (λ process. text_of process ≡ text) }
+        requires most { start.limit ≤ most_cycles }
+        ensures stands { IfOk result (λ process. (b : Memory) (bytes : ℕ → ℕ) → HoldsBytes b bytes map → StandsFor process b (origin_of false start bytes map) 0) }
+        ensures areas { IfOk result (λ process. areas_of process ≡ map) }
         ensures running { IfOk result (λ process. ended_of process ≡ None) }
     {
         let output = Vec::with_capacity(alloc, MOST_OUTPUT)?;
-        let inner = fresh_state(&start, text, output);
-        Ok(Process { inner })
+        let context = initial_context(&start, output);
+        Ok(Process { map, context })
     }
 
     /// How the process ended, if it has.
@@ -52,7 +54,7 @@ impl Process {
         ensures told { (b : Memory) (s : Origin) (n : ℕ) → StandsFor self.now b s n → result ≡ (alone s n).ended }
         ensures ran { (b : Memory) (s : Origin) (end : End) → HasRun self.now b s end → result ≡ Some end }
     {
-        self.inner.ended
+        self.context.ended
     }
 
     /// How many cycles the process has done.
@@ -61,7 +63,7 @@ impl Process {
         ensures lives { (b : Memory) (s : Origin) (n : ℕ) → StandsFor self.now b s n → n ≤ life s }
         ensures ran { (b : Memory) (s : Origin) (end : End) → HasRun self.now b s end → result ≡ life s }
     {
-        self.inner.cycles
+        self.context.cycles
     }
 
     /// The bytes that the process has put.
@@ -69,7 +71,7 @@ impl Process {
         ensures told { (b : Memory) (s : Origin) (n : ℕ) → StandsFor self.now b s n → result.now ≡ output_of (alone s n).history }
         ensures ran { (b : Memory) (s : Origin) (end : End) → HasRun self.now b s end → result.now ≡ output_of (alone s s.limit).history }
     {
-        self.inner.output.as_slice()
+        self.context.output.as_slice()
     }
 
     /// The value that the next cycle would read in a register.
@@ -77,19 +79,21 @@ impl Process {
         requires { number < 32 }
         ensures told { (b : Memory) (s : Origin) (n : ℕ) → StandsFor self.now b s n → result ≡ register_at s.registers (alone s n).history n (place_of side number) }
     {
-        self.inner.registers.get(side, number)
+        self.context.registers.get(side, number)
     }
 
     /// Does one cycle.
-    pub(crate) fn advance(&mut self, board: &Board)
+    pub(crate) fn advance(&mut self, board: &mut Board)
         requires running { ended_of self.old ≡ None }
-        requires on_board { IsOnMemory board.now (text_of self.old).lo (text_of self.old).len }
-        ensures stands { (s : Origin) (n : ℕ) → StandsFor self.old board.now s n → StandsFor self.new board.now s (n + 1) }
-        ensures text { text_of self.new ≡ text_of self.old }
+        requires on_board { LieOn board.old (areas_of self.old) }
+        ensures stands { (s : Origin) (n : ℕ) → StandsFor self.old board.old s n → StandsFor self.new board.new s (n + 1) }
+        ensures areas { areas_of self.new ≡ areas_of self.old }
         ensures cycles { cycles_of self.new ≡ cycles_of self.old + 1 }
         ensures limit { limit_of self.new ≡ limit_of self.old }
         ensures more { cycles_of self.old < limit_of self.old }
+        ensures frame { IsFramed (areas_of self.old) board.old board.new }
     {
-        advance(&mut self.inner, board);
+        let mut lane = board.lend(&self.map);
+        advance(&mut self.context, &mut lane);
     }
 }

@@ -1,107 +1,169 @@
-ghost use Rattle.std.specs.Prelude.{◌≡◌, ℕ, ◌+◌, ◌<◌, [], ◌∷◌, List};
-ghost use Rattle.c6x_spec.specs.Memory.{Memory, IsOnMemory};
-ghost use Rattle.c6x_exec.specs.Fits.{IsCarried};
-ghost use Rattle.c6x_exec.specs.History.{Effect};
-ghost use Rattle.c6x_exec.specs.Machine.{Life, instructed, packet_of, issued, outcome_of, next_of};
-ghost use Rattle.c6x_exec.specs.Origin.{Origin};
-ghost use Rattle.c6x_exec.specs.Packet.{instrs_of};
+ghost use Rattle.std.specs.Prelude.{◌≡◌, ℕ, ◌+◌, ◌<◌, ◌≤◌, List, length, All, Ok, ◌∷◌, []};
+ghost use Rattle.c6x_instr.specs.Spelling.{IsValid};
+ghost use Rattle.c6x_packet.specs.Packets.{IsChain, split_of};
+ghost use Rattle.c6x_board.specs.Lane.{LieOn};
+ghost use Rattle.c6x_exec.specs.Fits.{IsFramed};
+ghost use Rattle.c6x_machine.specs.History.{Effect};
+ghost use Rattle.c6x_machine.specs.Machine.{Life, fault_of_packet, instructed, packet_of, issued, outcome_of, next_of};
+ghost use Rattle.c6x_machine.specs.Origin.{Origin};
 ghost use Rattle.c6x_exec.specs.Sound.{IsSound, IsWithin, Stays};
 ghost use Rattle.c6x_exec.specs.Stands.{Tracks, Comes, Keeps};
 
 use crate::address::issue_address;
-use crate::carry::carry;
-use crate::end::End;
-use crate::fault_kind::FaultKind;
+use crate::context::Context;
+use crate::cycle_end::end_cycle;
+use crate::execute::execute_rows;
 use crate::fetch::fetch;
-use crate::finish::finish;
-use crate::gate::EXIT_GATE;
-use crate::instruction::{instruction, row};
-use crate::state::State;
+use crate::gate::{EXIT_GATE, PUT_GATE};
+use crate::put::put;
+use crate::rows::rows_at;
+use c6x_access::Map;
 use c6x_base::Side;
-use c6x_board::Board;
-use c6x_isa::Instr;
+use c6x_board::{Board, Lane};
+use c6x_isa::{Instr, decode, effects};
+use c6x_machine::{End, FaultKind};
+use c6x_packet::{PacketError, split};
 
-/// Does an instruction that is a packet by itself.
-fn carry_instruction(p: &mut State, instr: &Instr, at: u32) -> Option<End>
+/// The fault of words that are no packet.
+fn fault_of_packet(at: u32, error: PacketError) -> End
+    ensures { result ≡ fault_of_packet at error }
+{
+    match error {
+        PacketError::BadWord { place } => {
+            End::Fault(FaultKind::BadWord, at.wrapping_add(place.wrapping_mul(4)))
+        }
+        _ => End::Fault(FaultKind::BadPacket, at),
+    }
+}
+
+/// Does the instructions of a packet.
+fn execute_packet(
+    p: &mut Context,
+    map: &Map,
+    board: &mut Board,
+    instrs: &[Instr],
+    at: u32,
+) -> Option<End>
     requires sound { IsSound p.old }
-    requires carried { IsCarried instr.now }
+    requires few { length instrs.now ≤ 8 }
+    requires valid { All IsValid instrs.now }
+    requires on_board { LieOn board.old map.now }
     ensures sound { IsSound p.new }
     ensures stays { Stays p.old p.new }
-    ensures comes { (b : Memory) (s : Origin) (h : List Effect) (n : ℕ) → Tracks p.old b s h n n → Comes result (instructed s h n at (Ok (instr.now ∷ []))) p.new b s h n }
+    ensures comes { (s : Origin) (h : List Effect) (n : ℕ) → s.areas ≡ map.now → Tracks p.old board.old s h n n → Comes result (instructed s h n at (Ok instrs.now)) p.new board.new s h n }
+    ensures frame { IsFramed map.now board.old board.new }
 {
-    let next = at.wrapping_add(4);
-    let effects = row(instr, at, next, &p.registers);
-    carry(p, &effects, at, next)
+    let next = at.wrapping_add(4 * instrs.len() as u32);
+    let rows = rows_at(instrs, at, next, &p.registers);
+    execute_rows(p, map, board, rows.as_slice(), at, next)
 }
 
 /// Does a word that is a packet by itself.
-fn carry_word(p: &mut State, word: u32, at: u32) -> Option<End>
+fn execute_word(p: &mut Context, map: &Map, board: &mut Board, word: u32, at: u32) -> Option<End>
     requires sound { IsSound p.old }
+    requires on_board { LieOn board.old map.now }
     ensures sound { IsSound p.new }
     ensures stays { Stays p.old p.new }
-    ensures comes { (b : Memory) (s : Origin) (h : List Effect) (n : ℕ) → Tracks p.old b s h n n → Comes result (instructed s h n at (instrs_of (word ∷ []) at)) p.new b s h n }
+    ensures comes { (s : Origin) (h : List Effect) (n : ℕ) → s.areas ≡ map.now → Tracks p.old board.old s h n n → Comes result (instructed s h n at (split_of (word ∷ []))) p.new board.new s h n }
+    ensures frame { IsFramed map.now board.old board.new }
 {
-    match instruction(word) {
-        Some(instr) => carry_instruction(p, &instr, at),
+    match decode(word) {
+        Some(instr) => {
+            let next = at.wrapping_add(4);
+            let row = effects(&instr, at, next, &p.registers);
+            execute_rows(p, map, board, &[row], at, next)
+        }
         None => Some(End::Fault(FaultKind::BadWord, at)),
     }
 }
 
-/// Does the packet at an address.
-fn packet(p: &mut State, board: &Board, at: u32) -> Option<End>
+/// Does the words of a packet.
+fn execute_words(
+    p: &mut Context,
+    map: &Map,
+    board: &mut Board,
+    words: &[u32],
+    at: u32,
+) -> Option<End>
     requires sound { IsSound p.old }
-    requires on_board { IsOnMemory board.now p.old.text.lo p.old.text.len }
+    requires chain { IsChain words.now }
+    requires on_board { LieOn board.old map.now }
     ensures sound { IsSound p.new }
     ensures stays { Stays p.old p.new }
-    ensures comes { (s : Origin) (h : List Effect) (n : ℕ) → Tracks p.old board.now s h n n → Comes result (packet_of s h n at) p.new board.now s h n }
+    ensures comes { (s : Origin) (h : List Effect) (n : ℕ) → s.areas ≡ map.now → Tracks p.old board.old s h n n → Comes result (instructed s h n at (split_of words.now)) p.new board.new s h n }
+    ensures frame { IsFramed map.now board.old board.new }
 {
-    match fetch(p, board, at) {
-        Some(word) => carry_word(p, word, at),
-        None => Some(End::Fault(FaultKind::Fetch, at)),
+    if words.len() == 1 {
+        return execute_word(p, map, board, words[0], at);
+    }
+    match split(words) {
+        Ok(packet) => execute_packet(p, map, board, packet.as_slice(), at),
+        Err(error) => Some(fault_of_packet(at, error)),
+    }
+}
+
+/// Does the packet at an address.
+fn packet(p: &mut Context, map: &Map, board: &mut Board, at: u32) -> Option<End>
+    requires sound { IsSound p.old }
+    requires on_board { LieOn board.old map.now }
+    ensures sound { IsSound p.new }
+    ensures stays { Stays p.old p.new }
+    ensures comes { (s : Origin) (h : List Effect) (n : ℕ) → s.areas ≡ map.now → Tracks p.old board.old s h n n → Comes result (packet_of s h n at) p.new board.new s h n }
+    ensures frame { IsFramed map.now board.old board.new }
+{
+    match fetch(map, board, at) {
+        Ok(chain) => execute_words(p, map, board, chain.as_slice(), at),
+        Err(bad) => Some(End::Fault(FaultKind::Fetch, bad)),
     }
 }
 
 /// Does the packet or the gate at an address.
-fn issue(p: &mut State, board: &Board, at: u32) -> Option<End>
+fn issue(p: &mut Context, map: &Map, board: &mut Board, at: u32) -> Option<End>
     requires sound { IsSound p.old }
-    requires on_board { IsOnMemory board.now p.old.text.lo p.old.text.len }
+    requires on_board { LieOn board.old map.now }
     ensures sound { IsSound p.new }
     ensures stays { Stays p.old p.new }
-    ensures comes { (s : Origin) (h : List Effect) (n : ℕ) → Tracks p.old board.now s h n n → Comes result (issued s h n at) p.new board.now s h n }
+    ensures comes { (s : Origin) (h : List Effect) (n : ℕ) → s.areas ≡ map.now → Tracks p.old board.old s h n n → Comes result (issued s h n at) p.new board.new s h n }
+    ensures frame { IsFramed map.now board.old board.new }
 {
     if at == EXIT_GATE {
         Some(End::Exit(p.registers.get(Side::A, 4)))
+    } else if at == PUT_GATE {
+        put(p)
     } else {
-        packet(p, board, at)
+        packet(p, map, board, at)
     }
 }
 
 /// Does what is issued at the current cycle, if anything is.
-fn step(p: &mut State, board: &Board) -> Option<End>
+fn step(p: &mut Context, map: &Map, board: &mut Board) -> Option<End>
     requires sound { IsSound p.old }
-    requires on_board { IsOnMemory board.now p.old.text.lo p.old.text.len }
+    requires on_board { LieOn board.old map.now }
     ensures sound { IsSound p.new }
     ensures stays { Stays p.old p.new }
-    ensures comes { (s : Origin) (h : List Effect) (n : ℕ) → Tracks p.old board.now s h n n → Comes result (outcome_of s h n) p.new board.now s h n }
+    ensures comes { (s : Origin) (h : List Effect) (n : ℕ) → s.areas ≡ map.now → Tracks p.old board.old s h n n → Comes result (outcome_of s h n) p.new board.new s h n }
+    ensures frame { IsFramed map.now board.old board.new }
 {
     match issue_address(p) {
-        Some(at) => issue(p, board, at),
+        Some(at) => issue(p, map, board, at),
         None => None,
     }
 }
 
-/// Does one cycle.
-pub(crate) fn advance(p: &mut State, board: &Board)
+/// Does one cycle on a lane of the areas.
+pub(crate) fn advance(p: &mut Context, lane: &mut Lane<'_>)
     requires sound { IsSound p.old }
     requires more { p.old.cycles < p.old.limit }
-    requires on_board { IsOnMemory board.now p.old.text.lo p.old.text.len }
+    requires on_board { LieOn lane.old.board.now lane.old.map.now }
     ensures sound { IsSound p.new }
     ensures within { IsWithin p.new }
     ensures cycles { p.new.cycles ≡ p.old.cycles + 1 }
     ensures limit { p.new.limit ≡ p.old.limit }
-    ensures text { p.new.text ≡ p.old.text }
-    ensures keeps { (s : Origin) (l : Life) → Keeps p.old board.now s l → Keeps p.new board.now s (next_of s l) }
+    ensures same_board { lane.new.board.ghost_name ≡ lane.old.board.ghost_name }
+    ensures same_map { lane.new.map.now ≡ lane.old.map.now }
+    ensures keeps { (s : Origin) (l : Life) → s.areas ≡ lane.old.map.now → Keeps p.old lane.old.board.now s l → Keeps p.new lane.new.board.now s (next_of s l) }
+    ensures frame { IsFramed lane.old.map.now lane.old.board.now lane.new.board.now }
 {
-    let end = step(p, board);
-    finish(p, end);
+    let end = step(p, lane.map, lane.board);
+    end_cycle(p, end);
 }

@@ -3,4 +3,5 @@ pub mod Sizes
 pub mod Places
 pub mod InOrder
 pub mod Starts
+pub mod OwnBytes
 mod WorkedRow

@@ -1,4 +1,5 @@
-use Rattle.std.specs.Prelude.{ℕ, ◌+◌, ◌-◌, ◌*◌, ◌/◌, ◌%◌, ◌^◌, Bool, ◌==◌, ◌&&◌, ◌||◌, nat_le, nat_lt, slice_index, if◌then◌else◌}
+use Rattle.std.specs.Prelude.{List, [], ◌∷◌, true, false, ℕ, ◌+◌, ◌-◌, ◌*◌, ◌/◌, ◌%◌, ◌^◌, Bool, ◌==◌, ◌&&◌, ◌||◌, nat_le, nat_lt, slice_index, if◌then◌else◌}
+use Rattle.c6x_access.specs.declared.area.Area.{Area}
 use Rattle.c6x_module.specs.declared.module.Module.{Module}
 use Rattle.c6x_load.specs.declared.launch.Launch.{Launch}
 use Rattle.c6x_load.specs.declared.one.One.{One}
@@ -60,3 +61,11 @@ launch_of m stack one = record {
   b14 = moved_table m one;
   b15 = one.stack + stack - 8;
 }
+
+-- The areas of the process: the text may be read and run, the data range and the stack read and written.
+abbrev pub areas_of_one : Module → ℕ → One → List Area
+areas_of_one m stack one =
+    record { lo = one.text; len = m.text.memsz; read = true; write = false; run = true }
+    ∷ record { lo = one.data; len = m.memory.memsz; read = true; write = true; run = false }
+    ∷ record { lo = one.stack; len = stack; read = true; write = true; run = false }
+    ∷ []

@@ -1,13 +1,12 @@
-use Rattle.c6x_exec.proofs.Areas.{runs_in_text}
+use Rattle.std.proofs.Common.{◌∙◌}
 use Rattle.c6x_load.specs.Start.{start_byte}
-use Rattle.c6x_cli_run.specs.Run.{areas_of_process, text_range, data_range, stack_range}
 use Rattle.c6x_cli_run.proofs.placing.new_process.Goals as goal
 
-pub returns-in-Ok-clause-fresh : goal.returns-in-Ok-clause-fresh
-returns-in-Ok-clause-fresh c = record {
+pub returns-clause-fresh : goal.returns-clause-fresh
+returns-clause-fresh c = record {
   stands = λ board held.
       let placed = c.args.placed.now in
-      rw (← c.launch_one-launch.ensures)
-      (c.in-Ok.ensures.stands board (start_byte placed.image placed.one) (areas_of_process placed) (runs_in_text (text_range placed) (data_range placed) (stack_range placed)) held);
-  text = c.in-Ok.ensures.text;
+      rw (← c.launch_one-launch.ensures, ← c.in_ok-map.ensures)
+      (c.in_ok-process.ensures.stands board (start_byte placed.image placed.one) (rw c.in_ok-map.ensures held));
+  areas = c.in_ok-process.ensures.areas ∙ c.in_ok-map.ensures;
 }

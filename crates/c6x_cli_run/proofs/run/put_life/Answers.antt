@@ -6,7 +6,7 @@ pub returns-clause-bytes : goal.returns-clause-bytes
 returns-clause-bytes g c =
     let placed = c.args.placed.now in
     let ran = c.run_to_end-end.ensures.runs (origin_of_process placed) 0 (c.requires.fresh.stands c.args.board.now c.requires.start) in
-    rw (← c.run_to_end-end.ensures.board) (end_is_held placed _ _ _ ran)
+    end_is_held placed _ _ _ ran
 
 pub returns-clause-puts : goal.returns-clause-puts
 returns-clause-puts g c =

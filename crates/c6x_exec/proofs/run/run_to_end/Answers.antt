@@ -1,6 +1,6 @@
 -- The process has ended within its limit, so nothing of its life is left.
 use Rattle.std.proofs.Common.{sym}
-use Rattle.c6x_exec.proofs.Going.{has_run, stands_within}
+use Rattle.c6x_exec.proofs.Standing.{has_run, stands_within}
 use Rattle.c6x_exec.proofs.run.run_to_end.Goals as goal
 
 pub returns-in-Some-clause-runs : goal.returns-in-Some-clause-runs

@@ -1,10 +1,10 @@
 use Rattle.std.proofs.Common.{◌∙◌, ap, List, ℕ}
 use Rattle.std.specs.Prelude.{slice_index}
 use Rattle.c6x_instr.specs.Registers.{place_of}
-use Rattle.c6x_exec.proofs.Going.{stands_tracks}
-use Rattle.c6x_exec.proofs.Plain.{place_below}
+use Rattle.c6x_exec.proofs.Standing.{stands_tracks}
+use Rattle.c6x_exec.proofs.Amid.{place_below}
 use Rattle.c6x_exec.proofs.Registers.{register_in}
-use Rattle.c6x_exec.specs.Machine.{alone}
+use Rattle.c6x_machine.specs.Machine.{alone}
 use Rattle.c6x_exec.proofs.process.Process.register.Goals as goal
 
 pub returns : goal.returns

@@ -1,0 +1,6 @@
+pub mod History
+pub mod Origin
+pub mod Packet
+pub mod Machine
+pub mod FirstPart
+pub mod Laws
