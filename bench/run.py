@@ -1,10 +1,12 @@
 #!/usr/bin/env python3
-"""Cycles per second of `c6x run` on one process that loops by BNOP up to its limit.
+"""Cycles per second of `c6x run`, beside a plain interpreter with the same checks.
 
-    bench/run.py PROGRAM
+    bench/run.py PROGRAM [YARDSTICK]
 
-PROGRAM is the built `c6x`. The cost of a cycle is shown at 1, 2, 4 and 10 million cycles, less the time of a run of one
-cycle: it does not grow with the cycles that are done.
+PROGRAM is the built `c6x`. YARDSTICK is a program that takes the file of a plain executable, its argument and its limit,
+and prints the process line; without it its columns are left out. Both run a loop up to its limit, and what they print of
+the process is compared first. The cost of a cycle is that of a run of many cycles less that of a run of one; it is shown
+at two limits, since it does not grow with the cycles that are done.
 """
 import os
 import subprocess
@@ -13,23 +15,102 @@ import tempfile
 import time
 
 sys.path.insert(0, os.path.join(os.path.dirname(os.path.abspath(__file__)), "..", "checks"))
-from run import BOARD, branch_nop, module, mvk  # noqa: E402
+from run import BOARD, SIDE_B, addk, branch_nop, branch_nop_to, module, mvk, mvkh, places, short, two  # noqa: E402
+
+LIMITS = (1_000_000, 10_000_000)
+LDW, STW, LDH, STB = 6, 7, 4, 3
+
+
+def waiting():
+    return [branch_nop(1, 4, 5)]
+
+
+def moves():
+    return [branch_nop(1, 4, 0)] + [mvk(0, n, 5 + n) for n in range(5)]
+
+
+def loads_and_stores():
+    """Eight words before the loop take the address of the stack; the loop goes back to the boundary of 32 bytes there."""
+    stack = places(16, 4)[2]
+    start = [mvk(0, stack, 10), mvkh(0, stack >> 16, 10), mvk(SIDE_B, stack, 11), mvkh(SIDE_B, stack >> 16, 11)] + [0] * 4
+    loop = [
+        short(LDW, 0, 0, 1, 1, 10, 5),
+        short(STW, SIDE_B, SIDE_B, 1, 2, 11, 6),
+        branch_nop_to(0, 0, 0),
+        short(LDH, SIDE_B, SIDE_B, 1, 3, 11, 7),
+        short(STB, 0, 0, 1, 9, 10, 5),
+        short(LDW, 0, 0, 1, 4, 10, 8),
+        short(STW, 0, 0, 1, 5, 10, 9),
+        addk(0, 1, 9),
+    ]
+    return start + loop
+
+
+def packets_of_eight():
+    def eight(first):
+        words = [
+            two("L", 0x03, 0, 0, 16, 17, 18),
+            two("L", 0x03, SIDE_B, 0, 16, 17, 18),
+            first,
+            addk(SIDE_B, 1, 20),
+            two("D", 0x10, 0, 0, 21, 22, 23),
+            two("D", 0x10, SIDE_B, 0, 21, 22, 23),
+            two("M", 0x19, 0, 0, 24, 25, 26),
+            two("M", 0x19, SIDE_B, 0, 24, 25, 26),
+        ]
+        return [word | 1 for word in words[:-1]] + [words[-1]]
+
+    return eight(branch_nop_to(0, 0, 0)) + [word for n in range(5) for word in eight(addk(0, n, 20))]
+
 
 LOOPS = {
-    "BNOP that waits for itself": [branch_nop(1, 4, 5)],
-    "BNOP and five MVK": [branch_nop(1, 4, 0)] + [mvk(0, n, 5 + n) for n in range(5)],
+    "most cycles wait": waiting(),
+    "one MVK a packet": moves(),
+    "loads and stores": loads_and_stores(),
+    "packets of eight": packets_of_eight(),
 }
 
 
-def seconds(program, folder, limit):
-    with open(os.path.join(folder, "one.plan"), "w") as out:
-        out.write(f"c6x-plan 1\nquantum 10\nmodule app app.out\nprocess p app limit {limit} stack 64 arg {BOARD}\n")
-    before = time.perf_counter()
-    done = subprocess.run([program, "run", "one.plan"], cwd=folder, capture_output=True, timeout=600)
-    after = time.perf_counter()
-    if done.returncode != 0 or b"process p limit cycles %d output 0\n" % limit not in done.stdout:
-        sys.exit(f"bench/run.py: not the wanted run: {done}")
-    return after - before
+def process_line(text):
+    return next((line for line in text.split(b"\n") if line.startswith(b"process p ") and b" cycles " in line), b"")
+
+
+def spent(command, folder):
+    """The seconds of the best of three runs, and the process line."""
+    best, line = None, b""
+    for _ in range(3):
+        before = time.perf_counter()
+        done = subprocess.run(command, cwd=folder, capture_output=True, timeout=600)
+        after = time.perf_counter()
+        line = process_line(done.stdout)
+        best = after - before if best is None else min(best, after - before)
+    return best, line
+
+
+def commands(program, yardstick, limit):
+    yield "c6x", [program, "run", f"{limit}.plan"]
+    if yardstick:
+        yield "yardstick", [yardstick, "app.out", str(BOARD), str(limit)]
+
+
+def measure(program, yardstick, words, folder):
+    """Nanoseconds a cycle at each limit, by the name of the program."""
+    with open(os.path.join(folder, "app.out"), "wb") as out:
+        out.write(module(words))
+    for limit in (1,) + LIMITS:
+        with open(os.path.join(folder, f"{limit}.plan"), "w") as out:
+            out.write(f"c6x-plan 1\nquantum 10\nmodule app app.out\nprocess p app limit {limit} stack 64 arg {BOARD}\n")
+    start = {name: spent(command, folder)[0] for name, command in commands(program, yardstick, 1)}
+    found = {name: [] for name in start}
+    for limit in LIMITS:
+        lines = set()
+        for name, command in commands(program, yardstick, limit):
+            seconds, line = spent(command, folder)
+            lines.add(line.replace(b" output 0", b""))
+            found[name].append((seconds - start[name]) / limit * 1e9)
+        if len(lines) != 1 or b"limit cycles %d" % limit not in next(iter(lines)):
+            sys.exit(f"bench/run.py: not one answer: {lines}")
+    return found
 
 
 def main():
@@ -37,14 +118,16 @@ def main():
         print("bench/run.py: give the path of the built c6x")
         return 2
     program = os.path.abspath(sys.argv[1])
-    with tempfile.TemporaryDirectory() as folder:
-        for name, words in LOOPS.items():
-            with open(os.path.join(folder, "app.out"), "wb") as out:
-                out.write(module(words))
-            start = min(seconds(program, folder, 1) for _ in range(5))
-            for millions in (1, 2, 4, 10):
-                spent = min(seconds(program, folder, millions * 1_000_000) for _ in range(3)) - start
-                print(f"{name}: {millions:2} million cycles, {spent:.3f} s, {millions / spent:.1f} million cycles a second, {1000 * spent / millions:.1f} ns a cycle")
+    yardstick = os.path.abspath(sys.argv[2]) if len(sys.argv) > 2 else None
+    for name, words in LOOPS.items():
+        with tempfile.TemporaryDirectory() as folder:
+            found = measure(program, yardstick, words, folder)
+        few, many = found["c6x"]
+        text = f"{name}: {few:.0f} and {many:.0f} ns a cycle at 1 and 10 million, {1e3 / many:.1f} million cycles a second"
+        if yardstick:
+            plain = found["yardstick"][1]
+            text += f"; yardstick {plain:.0f} ns, {1e3 / plain:.1f} million; {plain / many:.2f} of its speed"
+        print(text, flush=True)
     return 0
 
 
