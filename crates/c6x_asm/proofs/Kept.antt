@@ -6,12 +6,15 @@ use Rattle.c6x_asm_lines.specs.declared.lexeme.Lexeme.{Lexeme}
 use Rattle.c6x_asm_lines.specs.declared.line.Line.{Line}
 use Rattle.c6x_asm_lines.specs.Grammar.{line_of}
 use Rattle.c6x_asm_lines.specs.declared.rule.AsmRule.{AsmRule}
+use Rattle.c6x_elf.specs.EntryRows.{symbol_row}
+use Rattle.c6x_elf.specs.Names.{name_table}
 use Rattle.c6x_elf.specs.Parts.{has_bytes}
+use Rattle.c6x_elf.specs.Rows.{half_bytes, word_bytes}
 use Rattle.c6x_elf.specs.Writing.{offset_end, written_size}
 use Rattle.c6x_asm_form.specs.Filing.{file_of, named_sections, named_shstrtab, named_strtab, named_symtab, sections_of}
 use Rattle.c6x_asm_form.specs.Headers.{null_section, table_section}
 use Rattle.c6x_asm_form.specs.Limits.{is_large, is_long, passes_limit}
-use Rattle.c6x_asm_form.specs.Symbols.{entry_row, name_table, ordered, symbol_numbers, symbol_table}
+use Rattle.c6x_asm_form.specs.Symbols.{entries, names_table, ordered, symbol_numbers, symbol_table}
 use Rattle.c6x_asm_steps.specs.States.{State}
 use Rattle.c6x_asm_steps.specs.Keeping.{IsStateSound}
 use Rattle.c6x_asm_steps.proofs.Steps.{stepped_sound}
@@ -54,7 +57,7 @@ same_state r u t first second = cc
 
 -- no sections and no symbols
 nothing_small : (text : List ℕ) → is_large text [] [] ≡ false
-unfolding is_large passes_limit is_long file_of sections_of named_sections named_symtab named_strtab named_shstrtab null_section table_section symbol_table entry_row name_table symbol_numbers ordered written_size offset_end has_bytes
+unfolding is_large passes_limit is_long file_of sections_of named_sections named_symtab named_strtab named_shstrtab null_section table_section symbol_table entries symbol_row word_bytes half_bytes names_table name_table symbol_numbers ordered written_size offset_end has_bytes
 nothing_small text = refl
 
 nothing_kept : (text : List ℕ) → IsKept text nothing

@@ -1,12 +1,13 @@
 -- The numbers of symbols, one symbol at a time.
-use Rattle.std.proofs.Common.{◌≡◌, ℕ, ◌+◌, ◌<◌, true, false, List, [], ◌∷◌, ◌++◌, length, take, get_or, map, count_by, refl, arith}
+use Rattle.std.proofs.Common.{◌≡◌, ℕ, ◌+◌, ◌<◌, true, false, List, [], ◌∷◌, ◌++◌, length, take, get_or, map, count_by, sym, subst, refl, arith}
 use Rattle.std.specs.List.{range_with_len}
 use Rattle.std.proofs.lemmas.List.{get_or_default}
 use Rattle.std.proofs.lemmas.List.FromFn.{map-range_with_len_more}
 use Rattle.std.proofs.lemmas.List.Sums.{count_by_more_yes, count_by_more_no}
 use Rattle.c6x_asm_object.specs.declared.symbol.Symbol.{Symbol}
 use Rattle.c6x_asm_form.specs.Bindings.{is_local, is_other}
-use Rattle.c6x_asm_form.specs.Symbols.{symbol_number}
+use Rattle.c6x_asm_form.specs.Symbols.{symbol_number, symbol_numbers}
+use Rattle.c6x_asm_form.proofs.RelocationEntries.{numbers_below}
 use Rattle.c6x_asm_object.specs.Symbols.{no_symbol}
 
 pub number_local : (sections : ℕ) (symbols : List Symbol) (i : ℕ) (d : Symbol) → i < length symbols → is_local (get_or symbols i d) ≡ true → symbol_number sections symbols i ≡ 1 + sections + count_by is_local (take i symbols)
@@ -32,3 +33,11 @@ other_yes symbols i d inside is = count_by_more_yes is_other symbols i d inside 
 
 pub other_no : (symbols : List Symbol) (i : ℕ) (d : Symbol) → i < length symbols → is_local (get_or symbols i d) ≡ true → count_by is_other (take (i + 1) symbols) ≡ count_by is_other (take i symbols)
 other_no symbols i d inside is = count_by_more_no is_other symbols i d inside (rw is refl)
+
+-- all numbers are below the number of the table's symbols
+pub numbers_small : (sections : ℕ) (symbols : List Symbol) (numbers : List ℕ) (i : ℕ) → i ≡ length symbols → numbers ≡ map (symbol_number sections symbols) (range_with_len 0 i) → (k : ℕ) → get_or numbers k 0 < 1 + sections + length symbols
+unfolding symbol_numbers
+numbers_small sections symbols numbers i all is k =
+    let whole : numbers ≡ map (symbol_number sections symbols) (range_with_len 0 (length symbols)) =
+    subst (λ n. numbers ≡ map (symbol_number sections symbols) (range_with_len 0 n)) all is in
+    subst (λ ns. get_or ns k 0 < 1 + sections + length symbols) (sym whole) (numbers_below sections symbols k)

@@ -1,19 +1,21 @@
 -- The names of a group, one symbol at a time.
-use Rattle.std.proofs.Common.{◌≡◌, ℕ, suc, ◌+◌, ◌-◌, ◌<◌, ◌≤◌, Bool, true, false, List, [], ◌∷◌, ◌++◌, length, drop, get_or, filter, ap, sym, ◌∙◌, ◌%◌, refl, arith, append_assoc, append-nil}
+use Rattle.std.proofs.Common.{◌≡◌, ℕ, suc, ◌+◌, ◌-◌, ◌<◌, ◌≤◌, Bool, true, false, List, [], ◌∷◌, ◌++◌, length, drop, get_or, filter, ap, sym, ◌∙◌, ◌^◌, length-append, refl, arith, append_assoc, append-nil}
 use Rattle.std.proofs.lemmas.List.{drop_more, drop_all}
 use Rattle.std.proofs.lemmas.List.Elements.{filter-append}
-use Rattle.std.specs.Int.{to_le_bytes, w16, w32}
+use Rattle.std.proofs.lemmas.Grind.{flat_map-append}
+use Rattle.c6x_elf.specs.EntryRows.{symbol_row, symbol_rows}
+use Rattle.c6x_elf.specs.Names.{name_row, name_table}
 use Rattle.c6x_asm_object.specs.declared.symbol.Symbol.{Symbol}
 use Rattle.c6x_asm_form.specs.Bindings.{is_local, is_other}
-use Rattle.c6x_asm_form.specs.Symbols.{entry_row, symbol_rows, section_rows, name_rows, ordered, symbol_table, name_table}
+use Rattle.c6x_asm_form.specs.Symbols.{entries, name_entries, names_table, null_entry, ordered, section_entries, section_entry, symbol_table}
 use Rattle.c6x_asm_object.specs.Symbols.{symbol_name, names_total}
-use Rattle.c6x_asm_file.specs.Names.{is_in, group}
+use Rattle.c6x_asm_file.specs.Names.{is_in, group, name_rows}
 
 pub total_append : (text : List ℕ) (a b : List Symbol) → names_total text (a ++ b) ≡ names_total text a + names_total text b
 total_append text [] b = omega arith
 total_append text (s ∷ a) b = omega (arith, total_append text a b)
 
-pub rows_append : (text : List ℕ) (name : ℕ) (a b : List Symbol) → symbol_rows text name (a ++ b) ≡ symbol_rows text name a ++ symbol_rows text (name + names_total text a) b
+pub rows_append : (text : List ℕ) (name : ℕ) (a b : List Symbol) → symbol_rows false (name_entries text name (a ++ b)) ≡ symbol_rows false (name_entries text name a) ++ symbol_rows false (name_entries text (name + names_total text a) b)
 rows_append text name [] b = let e : name + 0 ≡ name = omega arith in rw e refl
 rows_append text name (s ∷ a) b =
     let more = rows_append text (name + (length (symbol_name text s) + 1)) a b in
@@ -23,8 +25,19 @@ rows_append text name (s ∷ a) b =
 pub names_append : (text : List ℕ) (a b : List Symbol) → name_rows text (a ++ b) ≡ name_rows text a ++ name_rows text b
 names_append text [] b = refl
 names_append text (s ∷ a) b =
-    let more = names_append text a b in
-    grind (arith, append_assoc {A = ℕ})
+    ap (λ rows. name_row (symbol_name text s) ++ rows) (names_append text a b)
+    ∙ sym (append_assoc (name_row (symbol_name text s)) (name_rows text a) (name_rows text b))
+
+-- how long they are
+pub length-name_rows : (text : List ℕ) (symbols : List Symbol) → length (name_rows text symbols) ≡ names_total text symbols
+length-name_rows text [] = refl
+length-name_rows text (s ∷ symbols) =
+    omega (
+      arith,
+      length-append (name_row (symbol_name text s)) (name_rows text symbols),
+      length-append (symbol_name text s) (0 ∷ []),
+      length-name_rows text symbols,
+    )
 
 -- the next name of a group comes before the others of it
 pub group_at : (local : Bool) (symbols : List Symbol) (i : ℕ) (d : Symbol) → i < length symbols → group local (drop i symbols) ≡ group local (get_or symbols i d ∷ []) ++ group local (drop (i + 1) symbols)
@@ -44,15 +57,15 @@ pub total_within : (text : List ℕ) (local : Bool) (symbols : List Symbol) (i :
 total_within text local symbols i d inside = omega (arith, total_at text local symbols i d inside)
 
 -- the bytes so far and the rows that are left
-pub rows_at : (bytes text : List ℕ) (name : ℕ) (local : Bool) (symbols : List Symbol) (i : ℕ) (d : Symbol) → i < length symbols → bytes ++ symbol_rows text name (group local (drop i symbols)) ≡ bytes ++ symbol_rows text name (group local (get_or symbols i d ∷ [])) ++ symbol_rows text (name + names_total text (group local (get_or symbols i d ∷ []))) (group local (drop (i + 1) symbols))
+pub rows_at : (bytes text : List ℕ) (name : ℕ) (local : Bool) (symbols : List Symbol) (i : ℕ) (d : Symbol) → i < length symbols → bytes ++ symbol_rows false (name_entries text name (group local (drop i symbols))) ≡ bytes ++ symbol_rows false (name_entries text name (group local (get_or symbols i d ∷ []))) ++ symbol_rows false (name_entries text (name + names_total text (group local (get_or symbols i d ∷ []))) (group local (drop (i + 1) symbols)))
 rows_at bytes text name local symbols i d inside =
-    ap (λ more. bytes ++ symbol_rows text name more) (group_at local symbols i d inside)
+    ap (λ more. bytes ++ symbol_rows false (name_entries text name more)) (group_at local symbols i d inside)
     ∙ ap (λ rows. bytes ++ rows) (rows_append text name (group local (get_or symbols i d ∷ [])) (group local (drop (i + 1) symbols)))
-    ∙ sym (append_assoc bytes (symbol_rows text name (group local (get_or symbols i d ∷ []))) (symbol_rows text (name + names_total text (group local (get_or symbols i d ∷ []))) (group local (drop (i + 1) symbols))))
+    ∙ sym (append_assoc bytes (symbol_rows false (name_entries text name (group local (get_or symbols i d ∷ [])))) (symbol_rows false (name_entries text (name + names_total text (group local (get_or symbols i d ∷ []))) (group local (drop (i + 1) symbols)))))
 
-pub rows_end : (bytes text : List ℕ) (name : ℕ) (local : Bool) (symbols : List Symbol) (i : ℕ) → length symbols ≤ i → bytes ++ symbol_rows text name (group local (drop i symbols)) ≡ bytes
+pub rows_end : (bytes text : List ℕ) (name : ℕ) (local : Bool) (symbols : List Symbol) (i : ℕ) → length symbols ≤ i → bytes ++ symbol_rows false (name_entries text name (group local (drop i symbols))) ≡ bytes
 rows_end bytes text name local symbols i past =
-    ap (λ more. bytes ++ symbol_rows text name more) (group_end local symbols i past) ∙ append-nil bytes
+    ap (λ more. bytes ++ symbol_rows false (name_entries text name more)) (group_end local symbols i past) ∙ append-nil bytes
 
 pub total_end : (text : List ℕ) (local : Bool) (symbols : List Symbol) (i : ℕ) → length symbols ≤ i → names_total text (group local (drop i symbols)) ≡ 0
 total_end text local symbols i past = ap (names_total text) (group_end local symbols i past)
@@ -67,19 +80,27 @@ pub names_end : (bytes text : List ℕ) (local : Bool) (symbols : List Symbol) (
 names_end bytes text local symbols i past =
     ap (λ more. bytes ++ name_rows text more) (group_end local symbols i past) ∙ append-nil bytes
 
+-- there is room for the next name and the others
+pub names_within : (table table0 text : List ℕ) (local : Bool) (symbols : List Symbol) (i : ℕ) (d : Symbol) → i < length symbols → table ++ name_rows text (group local (drop i symbols)) ≡ table0 ++ name_rows text (group local symbols) → length table0 + names_total text (group local symbols) < 2 ^ 32 → length table + names_total text (group local (get_or symbols i d ∷ [])) < 2 ^ 32
+names_within table table0 text local symbols i d inside is few =
+    omega (
+      arith,
+      ap length is,
+      length-append table (name_rows text (group local (drop i symbols))),
+      length-append table0 (name_rows text (group local symbols)),
+      length-name_rows text (group local (drop i symbols)),
+      length-name_rows text (group local symbols),
+      total_within text local symbols i d inside,
+    )
+
 -- one more section symbol
-pub sections_at : (bytes : List ℕ) (i count : ℕ) → i < count → bytes ++ section_rows (i + 1) (count - i) ≡ bytes ++ entry_row 0 0 0 3 0 (i + 1) ++ section_rows (i + 1 + 1) (count - (i + 1))
+pub sections_at : (bytes : List ℕ) (i count : ℕ) → i < count → bytes ++ symbol_rows false (section_entries (i + 1) (count - i)) ≡ bytes ++ symbol_row false (section_entry (i + 1)) ++ symbol_rows false (section_entries (i + 1 + 1) (count - (i + 1)))
 sections_at bytes i count more =
     let e : count - i ≡ suc (count - (i + 1)) = omega arith in
-    rw e (sym (append_assoc bytes (entry_row 0 0 0 3 0 (i + 1)) (section_rows (i + 1 + 1) (count - (i + 1)))))
+    rw e (sym (append_assoc bytes (symbol_row false (section_entry (i + 1))) (symbol_rows false (section_entries (i + 1 + 1) (count - (i + 1))))))
 
-pub sections_end : (bytes : List ℕ) (i count : ℕ) → count ≤ i → bytes ++ section_rows (i + 1) (count - i) ≡ bytes
+pub sections_end : (bytes : List ℕ) (i count : ℕ) → count ≤ i → bytes ++ symbol_rows false (section_entries (i + 1) (count - i)) ≡ bytes
 sections_end bytes i count past = let e : count - i ≡ 0 = omega arith in rw e (append-nil bytes)
-
--- an entry behind the bytes so far, one number at a time
-pub row_put : (bytes : List ℕ) (name value size info other section : ℕ) → bytes ++ entry_row name value size info other section ≡ bytes ++ to_le_bytes w32 name ++ to_le_bytes w32 value ++ to_le_bytes w32 size ++ (info ∷ other ∷ []) ++ to_le_bytes w16 (section % 65536)
-unfolding entry_row
-row_put bytes name value size info other section = simp (append_assoc {A = ℕ}) refl
 
 -- the two groups have all names
 pub groups_total : (text : List ℕ) (symbols : List Symbol) → names_total text (group true symbols) + names_total text (group false symbols) ≡ names_total text symbols
@@ -96,12 +117,24 @@ names_first text true symbols = omega (arith, groups_total text symbols)
 names_first text false symbols = omega (arith, groups_total text symbols)
 
 -- the null symbol, the sections, the one group, the other one
-pub table_put : (text : List ℕ) (sections : ℕ) (symbols : List Symbol) → symbol_table text sections symbols ≡ entry_row 0 0 0 0 0 0 ++ section_rows 1 sections ++ symbol_rows text 1 (group true symbols) ++ symbol_rows text (1 + names_total text (group true symbols)) (group false symbols)
-unfolding symbol_table group ordered
+pub table_put : (text : List ℕ) (sections : ℕ) (symbols : List Symbol) → symbol_table text sections symbols ≡ symbol_row false null_entry ++ symbol_rows false (section_entries 1 sections) ++ symbol_rows false (name_entries text 1 (group true symbols)) ++ symbol_rows false (name_entries text (1 + names_total text (group true symbols)) (group false symbols))
+unfolding symbol_table entries group ordered
 table_put text sections symbols =
-    rw (rows_append text 1 (filter is_local symbols) (filter is_other symbols)) (simp (append_assoc {A = ℕ}) refl)
+    let names = name_entries text 1 (filter is_local symbols ++ filter is_other symbols) in
+    rw (flat_map-append (symbol_row false) (section_entries 1 sections) names, rows_append text 1 (filter is_local symbols) (filter is_other symbols))
+    (simp (append_assoc {A = ℕ}) refl)
 
-pub names_put : (text : List ℕ) (symbols : List Symbol) → name_table text symbols ≡ 0 ∷ [] ++ name_rows text (group true symbols) ++ name_rows text (group false symbols)
-unfolding name_table group ordered
-names_put text symbols =
-    rw (names_append text (filter is_local symbols) (filter is_other symbols)) (simp (append_assoc {A = ℕ}) refl)
+-- the one group of names behind the other one
+pub names_put : (text : List ℕ) (symbols : List Symbol) → names_table text symbols ≡ name_table [] ++ name_rows text (group true symbols) ++ name_rows text (group false symbols)
+unfolding names_table name_table group ordered
+names_put text symbols = ap (λ rows. 0 ∷ rows) (names_append text (filter is_local symbols) (filter is_other symbols))
+
+-- how long the table of no names is
+pub none_size : length (name_table []) ≡ 1
+unfolding name_table
+none_size = refl
+
+-- how long the table is behind the first group
+pub first_size : (text : List ℕ) (symbols : List Symbol) → length (name_table [] ++ name_rows text symbols) ≡ 1 + names_total text symbols
+unfolding name_table
+first_size text symbols = omega (arith, length-name_rows text symbols)

@@ -1,4 +1,4 @@
-ghost use Rattle.std.specs.Prelude.{◌≡◌, ◌≤◌, [], ◌∷◌, count_by, length, map, OnOk};
+ghost use Rattle.std.specs.Prelude.{◌≡◌, ℕ, ◌^◌, ◌<◌, ◌≤◌, [], ◌∷◌, count_by, length, map, slice_index, OnOk};
 ghost use Rattle.c6x_asm_form.specs.Filing.{has_entries, named_section, named_relas};
 ghost use Rattle.c6x_asm_file.specs.Adding.{added};
 
@@ -45,6 +45,7 @@ fn add_rela(
     section: &AsmSection,
     table: &mut SectionTable,
 ) -> Result<(), AllocError>
+    requires { (k : ℕ) → slice_index numbers.now k < 2 ^ 24 }
     ensures { OnOk result (table.new ≡ added (named_relas text.now numbers.now symtab number (section.now ∷ [])) table.old) }
 {
     if !has_entries(section) {
@@ -72,6 +73,7 @@ pub fn add_relas(
     sections: &[AsmSection],
     table: &mut SectionTable,
 ) -> Result<(), AllocError>
+    requires { (k : ℕ) → slice_index numbers.now k < 2 ^ 24 }
     ensures { OnOk result (table.new ≡ added (named_relas text.now numbers.now symtab 1 sections.now) table.old) }
 {
     let mut number = 1;

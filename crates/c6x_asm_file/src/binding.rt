@@ -1,12 +1,10 @@
-ghost use Rattle.std.specs.Prelude.{◌≡◌, ◌≤◌};
+ghost use Rattle.std.specs.Prelude.{◌≡◌};
 ghost use Rattle.c6x_asm_form.specs.Bindings.{is_shared, binding, is_local, visibility, definition_or_none};
 ghost use Rattle.c6x_asm_file.specs.Names.{is_in};
 
 use c6x_asm_object::{Definition, Symbol};
-use c6x_elf::abi::{
-    SHN_COMMON, SHN_TIC6X_SCOMMON, SHN_UNDEF, STB_GLOBAL, STB_LOCAL, STB_WEAK, STV_DEFAULT,
-    STV_HIDDEN,
-};
+use c6x_elf::SymbolBinding;
+use c6x_elf::abi::{SHN_COMMON, SHN_TIC6X_SCOMMON, SHN_UNDEF, STB_LOCAL, STV_DEFAULT, STV_HIDDEN};
 
 fn is_shared(definition: Option<Definition>) -> bool
     ensures { result ≡ is_shared definition }
@@ -22,16 +20,15 @@ fn is_shared(definition: Option<Definition>) -> bool
 
 /// The binding of a symbol: an undefined name and a common are global too.
 #[tactic(auto, unfolding(c6x_asm_form::specs::Bindings::binding))]
-pub fn binding(symbol: Symbol) -> u8
-    ensures is { result ≡ binding symbol }
-    ensures few { result ≤ 2 }
+pub fn binding(symbol: Symbol) -> SymbolBinding
+    ensures { result ≡ binding symbol }
 {
     if symbol.weak {
-        STB_WEAK
+        SymbolBinding::Weak
     } else if symbol.global || is_shared(symbol.definition) {
-        STB_GLOBAL
+        SymbolBinding::Global
     } else {
-        STB_LOCAL
+        SymbolBinding::Local
     }
 }
 
@@ -39,7 +36,7 @@ pub fn binding(symbol: Symbol) -> u8
 pub fn is_local(symbol: Symbol) -> bool
     ensures { result ≡ is_local symbol }
 {
-    binding(symbol) == STB_LOCAL
+    binding(symbol).number() == STB_LOCAL
 }
 
 /// Whether a symbol is one of the local names, or one of the others.

@@ -1,48 +1,54 @@
-ghost use Rattle.std.specs.Prelude.{◌≡◌, ◌+◌, ◌^◌, ◌<◌, [], ◌∷◌, ◌++◌, OnOk, IfOk};
-ghost use Rattle.c6x_asm_form.specs.Symbols.{entry_row, symbol_row, symbol_rows, section_rows, symbol_table};
+ghost use Rattle.std.specs.Prelude.{◌≡◌, ◌+◌, ◌^◌, ◌<◌, false, [], ◌∷◌, ◌++◌, OnOk, IfOk};
+ghost use Rattle.c6x_elf.specs.EntryRows.{symbol_rows};
+ghost use Rattle.c6x_asm_form.specs.Symbols.{name_entries, name_entry, null_entry, section_entries, section_entry, symbol_table};
 ghost use Rattle.c6x_asm_object.specs.Symbols.{names_total};
 ghost use Rattle.c6x_asm_file.specs.Names.{group};
 
 use crate::binding::{binding, definition_or_none, is_in, visibility};
 use c6x_asm_lines::bytes_at;
 use c6x_asm_object::Symbol;
-use c6x_base::Row;
-use c6x_elf::abi::STT_SECTION;
+use c6x_elf::abi::{SHN_UNDEF, STT_NOTYPE, STT_SECTION, STV_DEFAULT};
+use c6x_elf::{Symbol as Entry, SymbolBinding, info_of, put_symbol};
 use std::alloc::{AllocError, Global};
 
-// The numbers of an entry but for the name.
-#[derive(Clone, Copy)]
-struct SymbolEntry {
-    value: u32,
-    size: u32,
-    info: u8,
-    other: u8,
-    section: usize,
-}
-
-#[tactic(auto, using(crate::proofs::Names::row_put))]
-fn put_entry(bytes: &mut Row<u8>, name: u32, entry: &SymbolEntry) -> Result<(), AllocError>
-    ensures { OnOk result (bytes.new ≡ bytes.old ++ entry_row name entry.now.value entry.now.size entry.now.info entry.now.other entry.now.section) }
+fn null_entry() -> Entry
+    ensures { result ≡ null_entry }
 {
-    bytes.extend(&name.to_le_bytes())?;
-    bytes.extend(&entry.value.to_le_bytes())?;
-    bytes.extend(&entry.size.to_le_bytes())?;
-    bytes.extend(&[entry.info, entry.other])?;
-    bytes.extend(&((entry.section % 65_536) as u16).to_le_bytes())
+    Entry {
+        name: 0,
+        value: 0,
+        size: 0,
+        info: info_of(SymbolBinding::Local, STT_NOTYPE),
+        other: STV_DEFAULT,
+        section: SHN_UNDEF,
+    }
 }
 
-fn put_symbol(bytes: &mut Row<u8>, name: u32, symbol: Symbol) -> Result<(), AllocError>
-    ensures { OnOk result (bytes.new ≡ bytes.old ++ symbol_row name symbol) }
+fn section_entry(number: usize) -> Entry
+    ensures { result ≡ section_entry number }
+{
+    Entry {
+        name: 0,
+        value: 0,
+        size: 0,
+        info: info_of(SymbolBinding::Local, STT_SECTION),
+        other: STV_DEFAULT,
+        section: (number % 65_536) as u16,
+    }
+}
+
+fn name_entry(name: u32, symbol: Symbol) -> Entry
+    ensures { result ≡ name_entry name symbol }
 {
     let definition = definition_or_none(symbol.definition);
-    let entry = SymbolEntry {
+    Entry {
+        name,
         value: definition.value,
         size: definition.size,
-        info: 16 * binding(symbol),
+        info: info_of(binding(symbol), STT_NOTYPE),
         other: visibility(symbol),
-        section: definition.section,
-    };
-    put_entry(bytes, name, &entry)
+        section: (definition.section % 65_536) as u16,
+    }
 }
 
 // A symbol, if it is of the group; the answer is the offset of the next name.
@@ -50,16 +56,16 @@ fn put_symbol(bytes: &mut Row<u8>, name: u32, symbol: Symbol) -> Result<(), Allo
 fn put_if(
     text: &[u8],
     local: bool,
-    bytes: &mut Row<u8>,
+    bytes: &mut Vec<u8>,
     name: u32,
     symbol: Symbol,
 ) -> Result<u32, AllocError>
     requires { name + names_total text.now (group local (symbol ∷ [])) < 2 ^ 32 }
-    ensures bytes { OnOk result (bytes.new ≡ bytes.old ++ symbol_rows text.now name (group local (symbol ∷ []))) }
+    ensures bytes { OnOk result (bytes.new.items ≡ bytes.old.items ++ symbol_rows false (name_entries text.now name (group local (symbol ∷ [])))) }
     ensures name { IfOk result (λ next. next ≡ name + names_total text.now (group local (symbol ∷ []))) }
 {
     if is_in(local, symbol) {
-        put_symbol(bytes, name, symbol)?;
+        put_symbol(bytes, false, &name_entry(name, symbol))?;
         let len = bytes_at(text, symbol.at, symbol.len).len();
         Ok(name + (len as u32 + 1))
     } else {
@@ -72,12 +78,12 @@ fn put_if(
 fn put_group(
     text: &[u8],
     local: bool,
-    bytes: &mut Row<u8>,
+    bytes: &mut Vec<u8>,
     name: u32,
     symbols: &[Symbol],
 ) -> Result<u32, AllocError>
     requires { name + names_total text.now (group local symbols.now) < 2 ^ 32 }
-    ensures bytes { OnOk result (bytes.new ≡ bytes.old ++ symbol_rows text.now name (group local symbols.now)) }
+    ensures bytes { OnOk result (bytes.new.items ≡ bytes.old.items ++ symbol_rows false (name_entries text.now name (group local symbols.now))) }
     ensures name { IfOk result (λ next. next ≡ name + names_total text.now (group local symbols.now)) }
 {
     let mut next = name;
@@ -88,19 +94,12 @@ fn put_group(
 }
 
 #[tactic(auto, using(crate::proofs::Names::sections_at, crate::proofs::Names::sections_end))]
-fn put_sections(bytes: &mut Row<u8>, count: usize) -> Result<(), AllocError>
+fn put_sections(bytes: &mut Vec<u8>, count: usize) -> Result<(), AllocError>
     requires { count < 2 ^ 32 }
-    ensures { OnOk result (bytes.new ≡ bytes.old ++ section_rows 1 count) }
+    ensures { OnOk result (bytes.new.items ≡ bytes.old.items ++ symbol_rows false (section_entries 1 count)) }
 {
     for i in 0..count {
-        let entry = SymbolEntry {
-            value: 0,
-            size: 0,
-            info: STT_SECTION,
-            other: 0,
-            section: i + 1,
-        };
-        put_entry(bytes, 0, &entry)?;
+        put_symbol(bytes, false, &section_entry(i + 1))?;
     }
     Ok(())
 }
@@ -112,20 +111,13 @@ pub fn symbol_table(
     text: &[u8],
     sections: usize,
     symbols: &[Symbol],
-) -> Result<Row<u8>, AllocError>
+) -> Result<Vec<u8>, AllocError>
     requires few { sections < 2 ^ 32 }
     requires names { 1 + names_total text.now symbols.now < 2 ^ 32 }
-    ensures { IfOk result (λ bytes. bytes ≡ symbol_table text.now sections symbols.now) }
+    ensures { IfOk result (λ bytes. bytes.items ≡ symbol_table text.now sections symbols.now) }
 {
-    let mut bytes = Row::new(alloc);
-    let null = SymbolEntry {
-        value: 0,
-        size: 0,
-        info: 0,
-        other: 0,
-        section: 0,
-    };
-    put_entry(&mut bytes, 0, &null)?;
+    let mut bytes = Vec::new(alloc);
+    put_symbol(&mut bytes, false, &null_entry())?;
     put_sections(&mut bytes, sections)?;
     let name = put_group(text, true, &mut bytes, 1, symbols)?;
     put_group(text, false, &mut bytes, name, symbols)?;

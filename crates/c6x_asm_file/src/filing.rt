@@ -8,7 +8,7 @@ use crate::entries::symbol_table;
 use crate::headers::{STRINGS, TableKind, table_section};
 use crate::numbering::{count_local, symbol_numbers};
 use crate::section_table::SectionTable;
-use crate::strings::name_table;
+use crate::strings::names_table;
 use c6x_asm_object::{AsmSection, Symbol};
 use c6x_base::Row;
 use c6x_elf::File;
@@ -64,10 +64,11 @@ fn add_strtab(
     symbols: &[Symbol],
     table: &mut SectionTable,
 ) -> Result<(), AllocError>
+    requires { 1 + names_total text.now symbols.now < 2 ^ 32 }
     ensures { OnOk result (table.new ≡ added (named_strtab text.now symbols.now ∷ []) table.old) }
 {
-    let bytes = name_table(alloc, text, symbols)?;
-    let section = table_section(alloc, STRINGS, bytes.as_slice())?;
+    let names = names_table(alloc, text, symbols)?;
+    let section = table_section(alloc, STRINGS, names.as_bytes())?;
     table.add(&[], b".strtab", section)
 }
 
@@ -80,7 +81,7 @@ fn add_sections(
     symbols: &[Symbol],
     table: &mut SectionTable,
 ) -> Result<(), AllocError>
-    requires few { length sections.now < 2 ^ 31 }
+    requires numbered { 1 + length sections.now + length symbols.now ≤ 2 ^ 24 }
     requires names { 1 + names_total text.now symbols.now < 2 ^ 32 }
     ensures { OnOk result (table.new ≡ added (named_sections text.now sections.now symbols.now) table.old) }
 {
@@ -100,7 +101,7 @@ pub fn file_of(
     sections: &[AsmSection],
     symbols: &[Symbol],
 ) -> Result<File, AllocError>
-    requires few { length sections.now < 2 ^ 31 }
+    requires numbered { 1 + length sections.now + length symbols.now ≤ 2 ^ 24 }
     requires names { 1 + names_total text.now symbols.now < 2 ^ 32 }
     ensures { IfOk result (λ file. file ≡ file_of text.now sections.now symbols.now) }
 {

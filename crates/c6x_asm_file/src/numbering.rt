@@ -1,4 +1,4 @@
-ghost use Rattle.std.specs.Prelude.{◌≡◌, ◌+◌, ◌<◌, ◌≤◌, ◌^◌, count_by, length, IfOk};
+ghost use Rattle.std.specs.Prelude.{◌≡◌, ℕ, ◌+◌, ◌<◌, ◌≤◌, ◌^◌, count_by, length, slice_index, IfOk};
 ghost use Rattle.c6x_asm_form.specs.Bindings.{is_local};
 ghost use Rattle.c6x_asm_form.specs.Symbols.{symbol_numbers};
 
@@ -22,7 +22,8 @@ pub fn symbol_numbers(
     symbols: &[Symbol],
 ) -> Result<Vec<usize>, AllocError>
     requires { sections < 2 ^ 32 }
-    ensures { IfOk result (λ numbers. numbers.items ≡ symbol_numbers sections symbols.now) }
+    ensures is { IfOk result (λ numbers. numbers.items ≡ symbol_numbers sections symbols.now) }
+    ensures below { IfOk result (λ numbers. (k : ℕ) → slice_index numbers.items k < 1 + sections + length symbols.now) }
 {
     let mut numbers = Vec::new(alloc);
     let mut local = 1 + sections;

@@ -1,52 +1,55 @@
-ghost use Rattle.std.specs.Prelude.{◌≡◌, ◌++◌, IfOk, OnOk};
-ghost use Rattle.c6x_asm_form.specs.Relocations.{number_at, info_of, relocation_row, relocation_rows};
+ghost use Rattle.std.specs.Prelude.{◌≡◌, ℕ, ◌^◌, ◌<◌, IfOk, slice_index};
+ghost use Rattle.c6x_asm_form.specs.Relocations.{number_at, relocation, relocation_rows};
 
 use c6x_asm_object::RelocEntry;
-use c6x_base::Row;
+use c6x_elf::{Rela, put_rela};
 use c6x_reloc::number_of;
 use std::alloc::{AllocError, Global};
 
-fn number_at(numbers: &[usize], symbol: Option<usize>) -> usize
-    ensures { result ≡ number_at numbers.now symbol }
+fn number_at(numbers: &[usize], symbol: Option<usize>) -> u32
+    requires { (k : ℕ) → slice_index numbers.now k < 2 ^ 24 }
+    ensures is { result ≡ number_at numbers.now symbol }
+    ensures small { result < 2 ^ 24 }
 {
     match symbol {
         None => 0,
-        Some(i) => { if i < numbers.len() { numbers[i] } else { 0 } }
+        Some(i) => {
+            if i < numbers.len() {
+                numbers[i] as u32
+            } else {
+                0
+            }
+        }
     }
 }
 
-fn info_of(symbol: usize, kind: u8) -> u32
-    ensures { result ≡ info_of symbol kind }
+// The table's entry of a relocation.
+#[tactic(auto, unfolding(c6x_asm_form::specs::Relocations::relocation))]
+fn relocation(numbers: &[usize], entry: RelocEntry) -> Rela
+    requires { (k : ℕ) → slice_index numbers.now k < 2 ^ 24 }
+    ensures { result ≡ relocation numbers.now entry }
 {
-    (symbol % 16_777_216) as u32 * 256 + u32::from(kind)
+    Rela::new(
+        entry.offset,
+        number_at(numbers, entry.symbol),
+        number_of(entry.kind),
+        entry.addend.cast_signed(),
+    )
 }
 
-#[tactic(auto, using(crate::proofs::Rows::row_put))]
-fn put_relocation(
-    numbers: &[usize],
-    bytes: &mut Row<u8>,
-    entry: RelocEntry,
-) -> Result<(), AllocError>
-    ensures { OnOk result (bytes.new ≡ bytes.old ++ relocation_row numbers.now entry) }
-{
-    let info = info_of(number_at(numbers, entry.symbol), number_of(entry.kind));
-    bytes.extend(&entry.offset.to_le_bytes())?;
-    bytes.extend(&info.to_le_bytes())?;
-    bytes.extend(&entry.addend.to_le_bytes())
-}
-
-/// The relocation table of a section; `numbers` are those of the symbols.
+/// The relocation table of a section; `numbers` are those of the symbols, which fit the entries.
 #[tactic(auto, using(crate::proofs::Rows::rows_at, crate::proofs::Rows::rows_end))]
 pub fn relocation_table(
     alloc: Global,
     numbers: &[usize],
     entries: &[RelocEntry],
-) -> Result<Row<u8>, AllocError>
-    ensures { IfOk result (λ bytes. bytes ≡ relocation_rows numbers.now entries.now) }
+) -> Result<Vec<u8>, AllocError>
+    requires { (k : ℕ) → slice_index numbers.now k < 2 ^ 24 }
+    ensures { IfOk result (λ bytes. bytes.items ≡ relocation_rows numbers.now entries.now) }
 {
-    let mut bytes = Row::new(alloc);
+    let mut bytes = Vec::new(alloc);
     for entry in entries {
-        put_relocation(numbers, &mut bytes, *entry)?;
+        put_rela(&mut bytes, false, &relocation(numbers, *entry))?;
     }
     Ok(bytes)
 }

@@ -1,48 +1,50 @@
-ghost use Rattle.std.specs.Prelude.{◌≡◌, ◌∷◌, ◌++◌, [], OnOk, IfOk};
-ghost use Rattle.c6x_asm_form.specs.Symbols.{name_rows, name_table};
-ghost use Rattle.c6x_asm_file.specs.Names.{group};
+ghost use Rattle.std.specs.Prelude.{◌≡◌, ◌+◌, ◌^◌, ◌<◌, ◌∷◌, ◌++◌, [], length, OnOk, IfOk};
+ghost use Rattle.c6x_asm_form.specs.Symbols.{names_table};
+ghost use Rattle.c6x_asm_object.specs.Symbols.{names_total};
+ghost use Rattle.c6x_asm_file.specs.Names.{group, name_rows};
 
 use crate::binding::is_in;
 use c6x_asm_lines::bytes_at;
 use c6x_asm_object::Symbol;
-use c6x_base::Row;
+use c6x_elf::NameTable;
 use std::alloc::{AllocError, Global};
 
-// The name of a symbol with a zero byte, if it is of the group.
+// The name of a symbol, if it is of the group.
 #[tactic(auto, unfolding(crate::specs::Names::group))]
-fn put_if(text: &[u8], local: bool, bytes: &mut Row<u8>, symbol: Symbol) -> Result<(), AllocError>
-    ensures { OnOk result (bytes.new ≡ bytes.old ++ name_rows text.now (group local (symbol ∷ []))) }
+fn put_if(text: &[u8], local: bool, table: &mut NameTable, symbol: Symbol) -> Result<(), AllocError>
+    requires { length table.old + names_total text.now (group local (symbol ∷ [])) < 2 ^ 32 }
+    ensures { OnOk result (table.new ≡ table.old ++ name_rows text.now (group local (symbol ∷ []))) }
 {
     if is_in(local, symbol) {
-        bytes.extend(bytes_at(text, symbol.at, symbol.len))?;
-        bytes.push(0)?;
+        table.add(bytes_at(text, symbol.at, symbol.len))?;
     }
     Ok(())
 }
 
-#[tactic(auto, using(crate::proofs::Names::names_at, crate::proofs::Names::names_end))]
+#[tactic(auto, using(crate::proofs::Names::names_at, crate::proofs::Names::names_end, crate::proofs::Names::names_within))]
 fn put_names(
     text: &[u8],
     local: bool,
-    bytes: &mut Row<u8>,
+    table: &mut NameTable,
     symbols: &[Symbol],
 ) -> Result<(), AllocError>
-    ensures { OnOk result (bytes.new ≡ bytes.old ++ name_rows text.now (group local symbols.now)) }
+    requires { length table.old + names_total text.now (group local symbols.now) < 2 ^ 32 }
+    ensures { OnOk result (table.new ≡ table.old ++ name_rows text.now (group local symbols.now)) }
 {
     for symbol in symbols {
-        put_if(text, local, bytes, *symbol)?;
+        put_if(text, local, table, *symbol)?;
     }
     Ok(())
 }
 
-/// The names of the symbols: a zero byte, the local names, the others, a zero byte behind each.
-#[tactic(auto, using(crate::proofs::Names::names_put))]
-pub fn name_table(alloc: Global, text: &[u8], symbols: &[Symbol]) -> Result<Row<u8>, AllocError>
-    ensures { IfOk result (λ bytes. bytes ≡ name_table text.now symbols.now) }
+/// The names of the symbols: the local ones, then the others.
+#[tactic(auto, using(crate::proofs::Names::names_put, crate::proofs::Names::groups_total, crate::proofs::Names::first_size))]
+pub fn names_table(alloc: Global, text: &[u8], symbols: &[Symbol]) -> Result<NameTable, AllocError>
+    requires { 1 + names_total text.now symbols.now < 2 ^ 32 }
+    ensures { IfOk result (λ table. table ≡ names_table text.now symbols.now) }
 {
-    let mut bytes = Row::new(alloc);
-    bytes.push(0)?;
-    put_names(text, true, &mut bytes, symbols)?;
-    put_names(text, false, &mut bytes, symbols)?;
-    Ok(bytes)
+    let mut table = NameTable::new(alloc)?;
+    put_names(text, true, &mut table, symbols)?;
+    put_names(text, false, &mut table, symbols)?;
+    Ok(table)
 }

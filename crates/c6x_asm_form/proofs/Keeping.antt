@@ -1,5 +1,5 @@
 -- Each section of an object of sound sections and symbols keeps the rules on sizes, fields and entries.
-use Rattle.std.proofs.Common.{◌≡◌, ℕ, ◌+◌, ◌*◌, ◌/◌, ◌<◌, ◌≤◌, ◌==◌, Bool, true, false, cond, List, [], ◌∷◌, ◌++◌, length, map, sym, ap, ◌∙◌, subst, arith}
+use Rattle.std.proofs.Common.{◌≡◌, ℕ, ◌+◌, ◌*◌, ◌/◌, ◌^◌, ◌<◌, ◌≤◌, ◌==◌, Bool, true, false, cond, List, [], ◌∷◌, ◌++◌, length, map, sym, ap, ◌∙◌, subst, arith}
 use Rattle.std.specs.Prelude.{codes, count_by}
 use Rattle.std.proofs.lemmas.Bool.Decides.{nat_tests}
 use Rattle.c6x_elf.specs.Entries.{symbols_in, text_of}
@@ -12,7 +12,7 @@ use Rattle.c6x_asm_form.specs.Filing.{Named, has_entries, named_section, named_r
 use Rattle.c6x_asm_form.specs.Headers.{table_section}
 use Rattle.c6x_asm_form.specs.Relocations.{number_at, relocation_rows}
 use Rattle.c6x_asm_object.specs.Sound.{AreSound, IsEntrySound, IsSectionSound, IsSymbolSound}
-use Rattle.c6x_asm_form.specs.Symbols.{name_table, symbol_numbers, symbol_table}
+use Rattle.c6x_asm_form.specs.Symbols.{names_table, symbol_numbers, symbol_table}
 use Rattle.c6x_asm_form.proofs.Lengths.{length-symbol_table}
 use Rattle.c6x_asm_form.proofs.Limited.{IsShort}
 use Rattle.c6x_asm_form.proofs.Lists.{Each, each_append, each_back, each_front, each_of, each_weaken}
@@ -33,25 +33,25 @@ keeps_if : (t : Bool) (P Q : Named → Type 0) (here : Named) (later : List Name
 keeps_if true P Q here later first rest each = (first each.0, rest each.1)
 keeps_if false P Q here later first rest each = rest each
 
-rela_keeps : (all : List Section) (text numbers : List ℕ) (symtab number count : ℕ) (p : AsmSection) → length all ≤ 4096 → symtab < length all → number < length all → ((e : RelocEntry) → IsEntrySound count e → number_at numbers e.symbol < symbols_in all symtab) → IsSectionSound count p → IsShort (named_rela text numbers symtab number p) → KeepsNamed all (named_rela text numbers symtab number p)
-rela_keeps all text numbers symtab number count p most linked inside known sound short =
+rela_keeps : (all : List Section) (text numbers : List ℕ) (symtab number count : ℕ) (p : AsmSection) → length all ≤ 4096 → symtab < length all → number < length all → symbols_in all symtab ≤ 2 ^ 24 → ((e : RelocEntry) → IsEntrySound count e → number_at numbers e.symbol < symbols_in all symtab) → IsSectionSound count p → IsShort (named_rela text numbers symtab number p) → KeepsNamed all (named_rela text numbers symtab number p)
+rela_keeps all text numbers symtab number count p most linked inside numbered known sound short =
     let bytes = relocation_rows numbers p.entries in
     let same : length (table_section 4 symtab number 4 12 bytes).bytes ≡ length bytes = ap length (table_bytes 4 symtab number 4 12 bytes) in
     let few : length (table_section 4 symtab number 4 12 bytes).bytes ≤ 1048576 = short.bytes in
-    relas_keep all symtab number numbers p.entries most linked inside (omega arith)
+    relas_keep all symtab number numbers p.entries most linked inside (omega arith) numbered
     (each_weaken (IsEntrySound count) (λ (e : RelocEntry). number_at numbers e.symbol < symbols_in all symtab) p.entries known
     (each_of (IsEntrySound count) p.entries sound.entries))
 
-relas_keeps : (all : List Section) (text numbers : List ℕ) (symtab number count : ℕ) (ps : List AsmSection) → length all ≤ 4096 → symtab < length all → number + length ps ≤ length all → ((e : RelocEntry) → IsEntrySound count e → number_at numbers e.symbol < symbols_in all symtab) → Each (IsSectionSound count) ps → Each IsShort (named_relas text numbers symtab number ps) → Each (KeepsNamed all) (named_relas text numbers symtab number ps)
-relas_keeps all text numbers symtab number count [] most linked inside known sound short = tt
-relas_keeps all text numbers symtab number count (p ∷ ps) most linked inside known sound short =
+relas_keeps : (all : List Section) (text numbers : List ℕ) (symtab number count : ℕ) (ps : List AsmSection) → length all ≤ 4096 → symtab < length all → number + length ps ≤ length all → symbols_in all symtab ≤ 2 ^ 24 → ((e : RelocEntry) → IsEntrySound count e → number_at numbers e.symbol < symbols_in all symtab) → Each (IsSectionSound count) ps → Each IsShort (named_relas text numbers symtab number ps) → Each (KeepsNamed all) (named_relas text numbers symtab number ps)
+relas_keeps all text numbers symtab number count [] most linked inside numbered known sound short = tt
+relas_keeps all text numbers symtab number count (p ∷ ps) most linked inside numbered known sound short =
     keeps_if (has_entries p) (KeepsNamed all) IsShort (named_rela text numbers symtab number p)
     (named_relas text numbers symtab (number + 1) ps)
-    (rela_keeps all text numbers symtab number count p most linked (omega arith) known sound.0)
-    (relas_keeps all text numbers symtab (number + 1) count ps most linked (omega arith) known sound.1) short
+    (rela_keeps all text numbers symtab number count p most linked (omega arith) numbered known sound.0)
+    (relas_keeps all text numbers symtab (number + 1) count ps most linked (omega arith) numbered known sound.1) short
 
 -- the three tables at the end
-symtab_keeps : (all : List Section) (text : List ℕ) (ps : List AsmSection) (names : List Symbol) → length all ≤ 4096 → symtab_of ps + 1 < length all → length ps < length all → text_of all (symtab_of ps + 1) ≡ name_table text names → length (name_table text names) ≤ 1048576 → Each (IsSymbolSound (length ps)) names → IsShort (named_symtab text ps names) → KeepsNamed all (named_symtab text ps names)
+symtab_keeps : (all : List Section) (text : List ℕ) (ps : List AsmSection) (names : List Symbol) → length all ≤ 4096 → symtab_of ps + 1 < length all → length ps < length all → text_of all (symtab_of ps + 1) ≡ names_table text names → length (names_table text names) ≤ 1048576 → Each (IsSymbolSound (length ps)) names → IsShort (named_symtab text ps names) → KeepsNamed all (named_symtab text ps names)
 unfolding named_symtab
 symtab_keeps all text ps names most linked inside strings few sound short =
     let info = 1 + length ps + count_by is_local names in
@@ -60,17 +60,26 @@ symtab_keeps all text ps names most linked inside strings few sound short =
     let small : length (table_section 2 (symtab_of ps + 1) info 4 16 bytes).bytes ≤ 1048576 = short.bytes in
     symbols_keep all (symtab_of ps + 1) info text (length ps) names most linked inside strings (omega arith) (omega arith) sound
 
-strtab_short : (text : List ℕ) (names : List Symbol) → IsShort (named_strtab text names) → length (name_table text names) ≤ 1048576
+pub symtab_short : (text : List ℕ) (ps : List AsmSection) (names : List Symbol) → IsShort (named_symtab text ps names) → length (symbol_table text (length ps) names) ≤ 1048576
+unfolding named_symtab
+symtab_short text ps names short =
+    let info = 1 + length ps + count_by is_local names in
+    let bytes = symbol_table text (length ps) names in
+    let same : length (table_section 2 (symtab_of ps + 1) info 4 16 bytes).bytes ≡ length bytes = ap length (table_bytes 2 (symtab_of ps + 1) info 4 16 bytes) in
+    let small : length (table_section 2 (symtab_of ps + 1) info 4 16 bytes).bytes ≤ 1048576 = short.bytes in
+    omega arith
+
+strtab_short : (text : List ℕ) (names : List Symbol) → IsShort (named_strtab text names) → length (names_table text names) ≤ 1048576
 unfolding named_strtab
 strtab_short text names short =
-    let bytes = name_table text names in
+    let bytes = names_table text names in
     let same : length (table_section 3 0 0 1 0 bytes).bytes ≡ length bytes = ap length (table_bytes 3 0 0 1 0 bytes) in
     let small : length (table_section 3 0 0 1 0 bytes).bytes ≤ 1048576 = short.bytes in
     omega arith
 
-strtab_keeps : (all : List Section) (text : List ℕ) (names : List Symbol) → length (name_table text names) ≤ 1048576 → KeepsNamed all (named_strtab text names)
+strtab_keeps : (all : List Section) (text : List ℕ) (names : List Symbol) → length (names_table text names) ≤ 1048576 → KeepsNamed all (named_strtab text names)
 unfolding named_strtab
-strtab_keeps all text names few = strings_keep (length all) all (name_table text names) (omega arith)
+strtab_keeps all text names few = strings_keep (length all) all (names_table text names) (omega arith)
 
 names_keep : (all : List Section) (named : List Named) → IsShort (named_shstrtab named) → KeepsNamed all (named_shstrtab named)
 unfolding named_shstrtab
@@ -107,11 +116,13 @@ every_keeps text ps names sound most short =
     λ e there. subst (λ (n : ℕ). P n e) (sym has) (entry_below (length ps) names e there) in
     let sound_sections : Each (IsSectionSound (length names)) ps = each_of (IsSectionSound (length names)) ps sound.sections in
     let sound_names : Each (IsSymbolSound (length ps)) names = each_of (IsSymbolSound (length ps)) names sound.symbols in
+    let rows = symtab_short text ps names last.0 in
+    let numbered : symbols_in all (symtab_of ps) ≤ 2 ^ 24 = omega (arith, length-symbol_table text (length ps) names) in
     let strings = strtab_short text names last.1.0 in
     subst (Each (KeepsNamed all)) (sym (arranged text ps names))
     (each_append (KeepsNamed all) sections (relas ++ tables) (sections_keep all text (length names) ps sound_sections)
     (each_append (KeepsNamed all) relas tables
-    (relas_keeps all text (symbol_numbers (length ps) names) (symtab_of ps) 1 (length names) ps most (omega arith) (omega arith) known sound_sections
+    (relas_keeps all text (symbol_numbers (length ps) names) (symtab_of ps) 1 (length names) ps most (omega arith) (omega arith) numbered known sound_sections
     (each_front IsShort relas tables behind)) (
       symtab_keeps all text ps names most (omega arith) (omega arith) (strtab_text text ps names) strings sound_names last.0,
       (strtab_keeps all text names strings, (names_keep all _ last.1.1.0, tt)),

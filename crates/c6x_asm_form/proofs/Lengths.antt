@@ -1,37 +1,31 @@
 -- How long tables and lists of sections are, and how symbols are counted.
-use Rattle.std.proofs.Common.{◌≡◌, ℕ, zero, suc, ◌+◌, ◌*◌, ◌<◌, Bool, true, false, cond, List, [], ◌∷◌, ◌++◌, length, take, get_or, refl, sym, ap, ◌∙◌, length-append, arith}
+use Rattle.std.proofs.Common.{◌≡◌, ℕ, zero, suc, ◌+◌, ◌*◌, ◌<◌, Bool, true, false, cond, List, [], ◌∷◌, ◌++◌, length, map, take, get_or, refl, sym, ap, ◌∙◌, length-append, arith}
 use Rattle.c6x_asm_object.specs.Symbols.{symbol_name}
 use Rattle.std.specs.Prelude.{count_by, filter}
-use Rattle.std.proofs.lemmas.List.{length-take-le}
+use Rattle.std.proofs.lemmas.List.{length-map, length-take-le}
 use Rattle.std.proofs.lemmas.List.Filters.{length-filter_both}
 use Rattle.std.proofs.lemmas.List.Sums.{count_by-le-length, count_by_more_yes, length-filter, sum_by-cons, sum_by-take-le}
+use Rattle.c6x_elf_entries.specs.EntryRows.{symbol_rows}
+use Rattle.c6x_elf_entries.proofs.EntryRows.{length-rela_rows, length-symbol_rows}
 use Rattle.c6x_asm_object.specs.declared.reloc_entry.RelocEntry.{RelocEntry}
 use Rattle.c6x_asm_object.specs.declared.asm_section.AsmSection.{AsmSection}
 use Rattle.c6x_asm_object.specs.declared.symbol.Symbol.{Symbol}
 use Rattle.c6x_asm_form.specs.Bindings.{is_local, is_other}
 use Rattle.c6x_asm_form.specs.Filing.{Named, has_entries, named_rela, named_relas, sections_from}
-use Rattle.c6x_asm_form.specs.Relocations.{relocation_row, relocation_rows}
-use Rattle.c6x_asm_form.specs.Symbols.{entry_row, ordered, section_rows, symbol_row, symbol_rows, symbol_table}
+use Rattle.c6x_asm_form.specs.Relocations.{relocation, relocation_rows}
+use Rattle.c6x_asm_form.specs.Symbols.{entries, name_entries, null_entry, ordered, section_entries, symbol_table}
 
-pub length-entry_row : (name value size info other section : ℕ) → length (entry_row name value size info other section) ≡ 16
-unfolding entry_row
-length-entry_row name value size info other section = refl
+length-section_entries : (number count : ℕ) → length (section_entries number count) ≡ count
+length-section_entries number zero = refl
+length-section_entries number (suc count) = ap suc (length-section_entries (number + 1) count)
 
-pub length-section_rows : (number count : ℕ) → length (section_rows number count) ≡ 16 * count
-length-section_rows number zero = refl
-length-section_rows number (suc count) =
-    length-append (entry_row 0 0 0 3 0 number) (section_rows (number + 1) count)
-    ∙ omega (arith, length-entry_row 0 0 0 3 0 number, length-section_rows (number + 1) count)
+length-name_entries : (text : List ℕ) (name : ℕ) (symbols : List Symbol) → length (name_entries text name symbols) ≡ length symbols
+length-name_entries text name [] = refl
+length-name_entries text name (s ∷ symbols) = ap suc (length-name_entries text (name + (length (symbol_name text s) + 1)) symbols)
 
-length-symbol_row : (name : ℕ) (s : Symbol) → length (symbol_row name s) ≡ 16
-length-symbol_row name s = length-entry_row name _ _ _ _ _
-
-length-symbol_rows : (text : List ℕ) (name : ℕ) (symbols : List Symbol) → length (symbol_rows text name symbols) ≡ 16 * length symbols
-length-symbol_rows text name [] = refl
-length-symbol_rows text name (s ∷ symbols) =
-    let next = name + (length (symbol_name text s) + 1) in
-    length-append (symbol_row name s) (symbol_rows text next symbols)
-    ∙ omega (arith, length-symbol_row name s, length-symbol_rows text next symbols)
+pub length-section_rows : (number count : ℕ) → length (symbol_rows false (section_entries number count)) ≡ 16 * count
+length-section_rows number count =
+    length-symbol_rows false (section_entries number count) ∙ ap (λ n. 16 * n) (length-section_entries number count)
 
 pub length-ordered : (symbols : List Symbol) → length (ordered symbols) ≡ length symbols
 unfolding ordered
@@ -39,28 +33,22 @@ length-ordered symbols =
     length-append (filter is_local symbols) (filter is_other symbols) ∙ length-filter_both is_local is_other (λ s. refl) symbols
 
 pub length-symbol_table : (text : List ℕ) (sections : ℕ) (symbols : List Symbol) → length (symbol_table text sections symbols) ≡ 16 * (1 + sections + length symbols)
-unfolding symbol_table
+unfolding symbol_table entries
 length-symbol_table text sections symbols =
-    let rows = symbol_rows text 1 (ordered symbols) in
+    let names = name_entries text 1 (ordered symbols) in
+    let all = null_entry ∷ (section_entries 1 sections ++ names) in
     omega (
       arith,
-      length-append (entry_row 0 0 0 0 0 0) (section_rows 1 sections ++ rows),
-      length-append (section_rows 1 sections) rows,
-      length-entry_row 0 0 0 0 0 0,
-      length-section_rows 1 sections,
-      length-symbol_rows text 1 (ordered symbols),
+      length-symbol_rows false all,
+      length-append (section_entries 1 sections) names,
+      length-section_entries 1 sections,
+      length-name_entries text 1 (ordered symbols),
       length-ordered symbols,
     )
 
-pub length-relocation_row : (numbers : List ℕ) (e : RelocEntry) → length (relocation_row numbers e) ≡ 12
-unfolding relocation_row
-length-relocation_row numbers e = refl
-
 pub length-relocation_rows : (numbers : List ℕ) (entries : List RelocEntry) → length (relocation_rows numbers entries) ≡ 12 * length entries
-length-relocation_rows numbers [] = refl
-length-relocation_rows numbers (e ∷ entries) =
-    length-append (relocation_row numbers e) (relocation_rows numbers entries)
-    ∙ omega (arith, length-relocation_row numbers e, length-relocation_rows numbers entries)
+length-relocation_rows numbers entries =
+    length-rela_rows false (map (relocation numbers) entries) ∙ ap (λ n. 12 * n) (length-map entries (relocation numbers))
 
 pub length-sections_from : (at : ℕ) (named : List Named) → length (sections_from at named) ≡ length named
 length-sections_from at [] = refl

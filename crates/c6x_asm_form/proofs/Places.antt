@@ -8,7 +8,7 @@ use Rattle.c6x_asm_object.specs.declared.asm_section.AsmSection.{AsmSection}
 use Rattle.c6x_asm_object.specs.declared.symbol.Symbol.{Symbol}
 use Rattle.c6x_asm_form.specs.Filing.{Named, has_entries, named_section, named_relas, named_sections, named_shstrtab, named_strtab, named_symtab, names_of, sections_from, symtab_of}
 use Rattle.c6x_asm_form.specs.Headers.{null_section}
-use Rattle.c6x_asm_form.specs.Symbols.{name_table, symbol_numbers, symbol_table}
+use Rattle.c6x_asm_form.specs.Symbols.{names_table, symbol_numbers, symbol_table}
 use Rattle.c6x_asm_form.proofs.Lengths.{length-named_relas, length-sections_from}
 use Rattle.c6x_asm_form.proofs.Tables.{table_bytes}
 
@@ -89,15 +89,15 @@ symtab_bytes : (text : List ℕ) (ps : List AsmSection) (names : List Symbol) �
 unfolding named_symtab
 symtab_bytes text ps names = table_bytes 2 _ _ 4 16 (symbol_table text (length ps) names)
 
-strtab_bytes : (text : List ℕ) (names : List Symbol) → (named_strtab text names).section.bytes ≡ name_table text names
+strtab_bytes : (text : List ℕ) (names : List Symbol) → (named_strtab text names).section.bytes ≡ names_table text names
 unfolding named_strtab
-strtab_bytes text names = table_bytes 3 0 0 1 0 (name_table text names)
+strtab_bytes text names = table_bytes 3 0 0 1 0 (names_table text names)
 
 pub symtab_text : (text : List ℕ) (ps : List AsmSection) (names : List Symbol) → text_of (sections_all text ps names) (symtab_of ps) ≡ symbol_table text (length ps) names
 symtab_text text ps names =
     ap (text_of (sections_all text ps names)) (sym (add-zero (symtab_of ps))) ∙ table_text text ps names 0 ∙ symtab_bytes text ps names
 
-pub strtab_text : (text : List ℕ) (ps : List AsmSection) (names : List Symbol) → text_of (sections_all text ps names) (symtab_of ps + 1) ≡ name_table text names
+pub strtab_text : (text : List ℕ) (ps : List AsmSection) (names : List Symbol) → text_of (sections_all text ps names) (symtab_of ps + 1) ≡ names_table text names
 strtab_text text ps names = table_text text ps names 1 ∙ strtab_bytes text names
 
 -- the names of all sections

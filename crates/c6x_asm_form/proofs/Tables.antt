@@ -1,5 +1,5 @@
 -- The sections of an object one by one: sizes, fields and entries.
-use Rattle.std.proofs.Common.{◌≡◌, ℕ, ◌+◌, ◌*◌, ◌%◌, ◌<◌, ◌≤◌, ◌==◌, true, false, cond, List, [], None, length, nat_lt, refl, sym, ap, ◌∙◌, subst, arith}
+use Rattle.std.proofs.Common.{◌≡◌, ℕ, ◌+◌, ◌*◌, ◌%◌, ◌^◌, ◌<◌, ◌≤◌, ◌==◌, true, false, cond, List, [], None, length, nat_lt, refl, sym, ap, ◌∙◌, subst, arith}
 use Rattle.std.proofs.lemmas.Bool.Decides.{nat_tests}
 use Rattle.c6x_elf_headers.specs.Rules.{must}
 use Rattle.c6x_elf.specs.Entries.{entries_refusal, rela_refusal, relas_refusal, symbol_refusal, symbols_in, symbols_refusal, text_of}
@@ -16,7 +16,7 @@ use Rattle.c6x_asm_object.specs.declared.symbol.Symbol.{Symbol}
 use Rattle.c6x_asm_form.specs.Headers.{null_section, section_header, section_type, table_section}
 use Rattle.c6x_asm_form.specs.Relocations.{number_at, relocation_rows}
 use Rattle.c6x_asm_object.specs.Sound.{IsSectionSound, IsSymbolSound}
-use Rattle.c6x_asm_form.specs.Symbols.{name_table, symbol_table}
+use Rattle.c6x_asm_form.specs.Symbols.{names_table, symbol_table}
 use Rattle.c6x_asm_form.proofs.Lengths.{length-relocation_rows, length-symbol_table}
 use Rattle.c6x_asm_form.proofs.Lists.{Each}
 use Rattle.c6x_asm_form.proofs.RelocationEntries.{relocation_rows_pass}
@@ -156,7 +156,7 @@ unfolding table_section section_head_at
 table_link kind link info align entsize bytes below = fits link below
 
 -- the table of the symbols
-pub symbols_keep : (all : List Section) (link info : ℕ) (text : List ℕ) (sections : ℕ) (symbols : List Symbol) → length all ≤ 4096 → link < length all → sections < length all → text_of all link ≡ name_table text symbols → length (name_table text symbols) < 4294967296 → length (symbol_table text sections symbols) < 4294967296 → Each (IsSymbolSound sections) symbols → Keeps (length all) all (table_section 2 link info 4 16 (symbol_table text sections symbols))
+pub symbols_keep : (all : List Section) (link info : ℕ) (text : List ℕ) (sections : ℕ) (symbols : List Symbol) → length all ≤ 4096 → link < length all → sections < length all → text_of all link ≡ names_table text symbols → length (names_table text symbols) < 4294967296 → length (symbol_table text sections symbols) < 4294967296 → Each (IsSymbolSound sections) symbols → Keeps (length all) all (table_section 2 link info 4 16 (symbol_table text sections symbols))
 symbols_keep all link info text sections symbols most below inside linked names few sound =
     let bytes = symbol_table text sections symbols in
     let head = own_head (table_section 2 link info 4 16 bytes) in
@@ -169,15 +169,17 @@ symbols_keep all link info text sections symbols most below inside linked names 
     }
 
 -- the relocations of a section
-pub relas_keep : (all : List Section) (link info : ℕ) (numbers : List ℕ) (entries : List RelocEntry) → length all ≤ 4096 → link < length all → info < length all → length (relocation_rows numbers entries) < 4294967296 → Each (λ (e : RelocEntry). number_at numbers e.symbol < symbols_in all link) entries → Keeps (length all) all (table_section 4 link info 4 12 (relocation_rows numbers entries))
-relas_keep all link info numbers entries most below inside few sound =
+pub relas_keep : (all : List Section) (link info : ℕ) (numbers : List ℕ) (entries : List RelocEntry) → length all ≤ 4096 → link < length all → info < length all → length (relocation_rows numbers entries) < 4294967296 → symbols_in all link ≤ 2 ^ 24 → Each (λ (e : RelocEntry). number_at numbers e.symbol < symbols_in all link) entries → Keeps (length all) all (table_section 4 link info 4 12 (relocation_rows numbers entries))
+relas_keep all link info numbers entries most below inside few numbered sound =
     let bytes = relocation_rows numbers entries in
     let head = own_head (table_section 4 link info 4 12 bytes) in
+    let own = sym (table_link 4 link info 4 12 bytes (omega arith)) in
+    let Q : ℕ → Type 0 = λ l. symbols_in all l ≤ 2 ^ 24 in
     let P : ℕ → Type 0 = λ l. Each (λ (e : RelocEntry). number_at numbers e.symbol < symbols_in all l) entries in
     record {
       sized = table_sized 4 link info 4 12 bytes (has_bytes_in 4 (omega arith) (omega arith)) few;
       fields = relas_fields (length all) link info bytes (less link (length all) below most) (less info (length all) inside most)
           (twelves (length entries) (length bytes) (length-relocation_rows numbers entries) few);
       entries = relas_entries all link info bytes
-          (relocation_rows_pass all head numbers entries (subst P (sym (table_link 4 link info 4 12 bytes (omega arith))) sound));
+          (relocation_rows_pass all head numbers entries (subst Q own numbered) (subst P own sound));
     }

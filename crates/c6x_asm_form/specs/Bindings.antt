@@ -1,6 +1,9 @@
 -- What an object file says of a name (gABI chapter 4, "Symbol Table").
 use Rattle.std.specs.Prelude.{ℕ, ◌==◌, Bool, true, not, ◌||◌, if◌then◌else◌, Option, Some, None}
-use Rattle.c6x_elf.specs.Abi.{SHN_COMMON, SHN_TIC6X_SCOMMON, SHN_UNDEF, STB_GLOBAL, STB_LOCAL, STB_WEAK, STV_DEFAULT, STV_HIDDEN}
+use Rattle.c6x_elf.specs.Attributes.{binding_number}
+use Rattle.c6x_elf.specs.Bindings.{Local, Global, Weak}
+use Rattle.c6x_elf.specs.Abi.{SHN_COMMON, SHN_TIC6X_SCOMMON, SHN_UNDEF, STB_LOCAL, STV_DEFAULT, STV_HIDDEN}
+use Rattle.c6x_elf.specs.Types.{SymbolBinding}
 use Rattle.c6x_asm_object.specs.declared.definition.Definition.{Definition}
 use Rattle.c6x_asm_object.specs.declared.symbol.Symbol.{Symbol}
 
@@ -14,11 +17,11 @@ is_shared None = true
 is_shared (Some definition) = is_common definition.section
 
 -- an undefined name and a common are global too
-unfoldable pub binding : Symbol → ℕ
-binding s = if s.weak then STB_WEAK else if s.global || is_shared s.definition then STB_GLOBAL else STB_LOCAL
+unfoldable pub binding : Symbol → SymbolBinding
+binding s = if s.weak then Weak else if s.global || is_shared s.definition then Global else Local
 
 abbrev pub is_local : Symbol → Bool
-is_local s = binding s == STB_LOCAL
+is_local s = binding_number (binding s) == STB_LOCAL
 
 abbrev pub is_other : Symbol → Bool
 is_other s = not (is_local s)

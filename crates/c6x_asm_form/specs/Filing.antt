@@ -8,7 +8,7 @@ use Rattle.c6x_asm_object.specs.Named.{section_name}
 use Rattle.c6x_asm_object.specs.declared.asm_section.AsmSection.{AsmSection}
 use Rattle.c6x_asm_object.specs.declared.symbol.Symbol.{Symbol}
 use Rattle.c6x_asm_form.specs.Bindings.{is_local}
-use Rattle.c6x_asm_form.specs.Symbols.{name_table, symbol_numbers, symbol_table}
+use Rattle.c6x_asm_form.specs.Symbols.{names_table, symbol_numbers, symbol_table}
 use Rattle.c6x_asm_form.specs.Relocations.{relocation_rows}
 use Rattle.c6x_asm_form.specs.Headers.{null_section, section_header, table_section}
 
@@ -51,7 +51,7 @@ named_symtab text sections symbols = record {
 }
 
 unfoldable pub named_strtab : List ℕ → List Symbol → Named
-named_strtab text symbols = record { name = codes ".strtab"; section = table_section SHT_STRTAB 0 0 1 0 (name_table text symbols) }
+named_strtab text symbols = record { name = codes ".strtab"; section = table_section SHT_STRTAB 0 0 1 0 (names_table text symbols) }
 
 -- all sections in order but the null section and the names of the sections
 unfoldable pub named_sections : List ℕ → List AsmSection → List Symbol → List Named

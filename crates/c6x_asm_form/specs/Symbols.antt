@@ -1,10 +1,14 @@
 -- The symbol table of an object and its names (gABI chapter 4, "Symbol Table" and "String Table"): the null symbol, the
 -- section symbols, the local names, the others; the order inside a group is that of first appearance.
-use Rattle.std.specs.Prelude.{ℕ, zero, suc, ◌+◌, ◌*◌, ◌%◌, if◌then◌else◌, List, [], ◌∷◌, ◌++◌, length, map, take, filter, count_by}
-use Rattle.c6x_elf.specs.Abi.{STT_SECTION}
-use Rattle.c6x_asm_object.specs.Symbols.{symbol_name, symbol_of}
-use Rattle.std.specs.Int.{to_le_bytes, w16, w32}
+use Rattle.std.specs.Prelude.{ℕ, zero, suc, ◌+◌, ◌%◌, if◌then◌else◌, false, List, [], ◌∷◌, ◌++◌, length, map, take, filter, count_by}
 use Rattle.std.specs.List.{range_with_len}
+use Rattle.c6x_elf.specs.Abi.{SHN_UNDEF, STT_NOTYPE, STT_SECTION, STV_DEFAULT}
+use Rattle.c6x_elf.specs.Attributes.{symbol_info}
+use Rattle.c6x_elf.specs.Bindings.{Local}
+use Rattle.c6x_elf.specs.EntryRows.{symbol_rows}
+use Rattle.c6x_elf.specs.Names.{name_table}
+use Rattle.c6x_elf.specs.Types.{Symbol as Entry}
+use Rattle.c6x_asm_object.specs.Symbols.{symbol_name, symbol_of}
 use Rattle.c6x_asm_object.specs.declared.symbol.Symbol.{Symbol}
 use Rattle.c6x_asm_form.specs.Bindings.{binding, is_local, is_other, visibility, definition_or_none}
 
@@ -12,37 +16,46 @@ use Rattle.c6x_asm_form.specs.Bindings.{binding, is_local, is_other, visibility,
 unfoldable pub ordered : List Symbol → List Symbol
 ordered symbols = filter is_local symbols ++ filter is_other symbols
 
--- an entry of 16 bytes
-unfoldable pub entry_row : ℕ → ℕ → ℕ → ℕ → ℕ → ℕ → List ℕ
-entry_row name value size info other section =
-    to_le_bytes w32 name ++ (to_le_bytes w32 value ++ (to_le_bytes w32 size ++ (info ∷ other ∷ to_le_bytes w16 (section % 65536))))
+-- the null symbol (gABI chapter 4, "Symbol Table")
+abbrev pub null_entry : Entry
+null_entry = record { name = 0; value = 0; size = 0; info = symbol_info Local STT_NOTYPE; other = STV_DEFAULT; section = SHN_UNDEF }
 
--- the entry of a name that stands at an offset of the names
-abbrev pub symbol_row : ℕ → Symbol → List ℕ
-symbol_row name s =
-    entry_row name (definition_or_none s.definition).value (definition_or_none s.definition).size (16 * binding s) (visibility s) (definition_or_none s.definition).section
+-- the symbol of the section with this number, of type SECTION
+abbrev pub section_entry : ℕ → Entry
+section_entry number = record { name = 0; value = 0; size = 0; info = symbol_info Local STT_SECTION; other = STV_DEFAULT; section = number % 65536 }
 
--- the entries of names one behind the other, where the first one stands at this offset
-abbrev pub symbol_rows : List ℕ → ℕ → List Symbol → List ℕ
-symbol_rows text name [] = []
-symbol_rows text name (s ∷ symbols) = symbol_row name s ++ symbol_rows text (name + (length (symbol_name text s) + 1)) symbols
+-- the symbol of a name that stands at an offset of the names
+abbrev pub name_entry : ℕ → Symbol → Entry
+name_entry name s = record {
+  name = name;
+  value = (definition_or_none s.definition).value;
+  size = (definition_or_none s.definition).size;
+  info = symbol_info (binding s) STT_NOTYPE;
+  other = visibility s;
+  section = (definition_or_none s.definition).section % 65536;
+}
 
--- the symbols of so many sections, of type SECTION, from this number on
-abbrev pub section_rows : ℕ → ℕ → List ℕ
-section_rows number zero = []
-section_rows number (suc count) = entry_row 0 0 0 STT_SECTION 0 number ++ section_rows (number + 1) count
+-- the symbols of so many sections, from this number on
+abbrev pub section_entries : ℕ → ℕ → List Entry
+section_entries number zero = []
+section_entries number (suc count) = section_entry number ∷ section_entries (number + 1) count
 
+-- the symbols of names, where the first one stands at this offset
+abbrev pub name_entries : List ℕ → ℕ → List Symbol → List Entry
+name_entries text name [] = []
+name_entries text name (s ∷ symbols) = name_entry name s ∷ name_entries text (name + (length (symbol_name text s) + 1)) symbols
+
+-- the symbols of an object of so many sections
+unfoldable pub entries : List ℕ → ℕ → List Symbol → List Entry
+entries text sections symbols = null_entry ∷ (section_entries 1 sections ++ name_entries text 1 (ordered symbols))
+
+-- their bytes
 unfoldable pub symbol_table : List ℕ → ℕ → List Symbol → List ℕ
-symbol_table text sections symbols =
-    entry_row 0 0 0 0 0 0 ++ (section_rows 1 sections ++ symbol_rows text 1 (ordered symbols))
+symbol_table text sections symbols = symbol_rows false (entries text sections symbols)
 
--- names with a zero byte behind each
-abbrev pub name_rows : List ℕ → List Symbol → List ℕ
-name_rows text [] = []
-name_rows text (s ∷ symbols) = symbol_name text s ++ (0 ∷ name_rows text symbols)
-
-unfoldable pub name_table : List ℕ → List Symbol → List ℕ
-name_table text symbols = 0 ∷ name_rows text (ordered symbols)
+-- the names of the symbols in the same order
+unfoldable pub names_table : List ℕ → List Symbol → List ℕ
+names_table text symbols = name_table (map (symbol_name text) (ordered symbols))
 
 -- the number in the table of the symbol with this index among the names by first appearance
 unfoldable pub symbol_number : ℕ → List Symbol → ℕ → ℕ

@@ -1,16 +1,22 @@
 -- How many bytes the names of an object take.
-use Rattle.std.proofs.Common.{◌≡◌, ℕ, ◌+◌, Bool, true, false, not, cond, List, [], ◌∷◌, ◌++◌, filter, length, refl, ap, ◌∙◌, length-append, arith}
+use Rattle.std.proofs.Common.{◌≡◌, ℕ, ◌+◌, Bool, true, false, not, cond, List, [], ◌∷◌, ◌++◌, filter, length, map, refl, ap, ◌∙◌, length-append, arith}
+use Rattle.std.specs.List.{flat_map}
+use Rattle.c6x_elf.specs.Names.{name_row, name_table}
 use Rattle.c6x_asm_object.specs.declared.symbol.Symbol.{Symbol}
 use Rattle.c6x_asm_form.specs.Bindings.{is_local, is_other}
-use Rattle.c6x_asm_form.specs.Symbols.{name_rows, name_table, ordered}
+use Rattle.c6x_asm_form.specs.Symbols.{names_table, ordered}
 use Rattle.c6x_asm_object.specs.Symbols.{symbol_name, names_total}
 
 -- the names, with a zero byte behind each
-length-name_rows : (text : List ℕ) (symbols : List Symbol) → length (name_rows text symbols) ≡ names_total text symbols
+length-name_rows : (text : List ℕ) (symbols : List Symbol) → length (flat_map name_row (map (symbol_name text) symbols)) ≡ names_total text symbols
 length-name_rows text [] = refl
 length-name_rows text (s ∷ symbols) =
-    length-append (symbol_name text s) (0 ∷ name_rows text symbols)
-    ∙ omega (arith, length-name_rows text symbols)
+    omega (
+      arith,
+      length-append (name_row (symbol_name text s)) (flat_map name_row (map (symbol_name text) symbols)),
+      length-append (symbol_name text s) (0 ∷ []),
+      length-name_rows text symbols,
+    )
 
 names_total-append : (text : List ℕ) (a b : List Symbol) → names_total text (a ++ b) ≡ names_total text a + names_total text b
 names_total-append text [] b = omega arith
@@ -31,7 +37,7 @@ unfolding ordered
 names_total-ordered text symbols =
     names_total-append text (filter is_local symbols) (filter is_other symbols) ∙ names_total-both text symbols
 
-pub length-name_table : (text : List ℕ) (symbols : List Symbol) → length (name_table text symbols) ≡ 1 + names_total text symbols
-unfolding name_table
-length-name_table text symbols =
+pub length-names_table : (text : List ℕ) (symbols : List Symbol) → length (names_table text symbols) ≡ 1 + names_total text symbols
+unfolding names_table name_table
+length-names_table text symbols =
     omega (arith, length-name_rows text (ordered symbols), names_total-ordered text symbols)

@@ -16,13 +16,13 @@ use Rattle.c6x_asm_form.specs.Bindings.{is_local}
 use Rattle.c6x_asm_form.specs.Filing.{Named, file_of, named_section, named_relas, named_sections, named_shstrtab, named_strtab, named_symtab, names_of, sections_from, sections_of, symtab_of}
 use Rattle.c6x_asm_form.specs.Headers.{null_section, table_section}
 use Rattle.c6x_asm_form.specs.Limits.{is_large, is_long, passes_limit}
-use Rattle.c6x_asm_form.specs.Symbols.{name_table, symbol_numbers, symbol_table}
+use Rattle.c6x_asm_form.specs.Symbols.{names_table, symbol_numbers, symbol_table}
 use Rattle.c6x_asm_form.proofs.Lengths.{length-symbol_table}
 use Rattle.c6x_asm_limits.specs.declared.summary.Summary.{Summary}
 use Rattle.c6x_asm_limits.specs.Places.{sections_end}
 use Rattle.c6x_asm_limits.specs.Passing.{has_long, name_bytes, passes, section_count, symbol_bytes, whole_size}
 use Rattle.c6x_asm_limits.specs.Sums.{clipped, is_heavy, is_past, names_of_section, rows_of_section, section_tables}
-use Rattle.c6x_asm_limits.proofs.Lengths.{length-name_table}
+use Rattle.c6x_asm_limits.proofs.Lengths.{length-names_table}
 use Rattle.c6x_asm_limits.proofs.Sections.{any_long, end_table, ends_all, ends_all-append, ends_named, ends_relas, length_relas, long_heavy, long_table, names_of-append, names_sections}
 use Rattle.c6x_asm_limits.proofs.Summaries.{Tells}
 
@@ -97,7 +97,7 @@ end_symtab text sections symbols at =
 end_strtab : (text : List ℕ) (symbols : List Symbol) (at : ℕ) → offset_end at (named_strtab text symbols).section ≡ rounded at 1 + (1 + names_total text symbols)
 unfolding named_strtab
 end_strtab text symbols at =
-    end_table at 3 0 0 1 0 (name_table text symbols) stored_strtab ∙ ap (λ n. rounded at 1 + n) (length-name_table text symbols)
+    end_table at 3 0 0 1 0 (names_table text symbols) stored_strtab ∙ ap (λ n. rounded at 1 + n) (length-names_table text symbols)
 
 long_symtab : (text : List ℕ) (sections : List AsmSection) (symbols : List Symbol) → is_long (named_symtab text sections symbols).section ≡ is_past (symbol_bytes (length sections) (length symbols))
 unfolding named_symtab
@@ -107,7 +107,7 @@ long_symtab text sections symbols =
 
 long_strtab : (text : List ℕ) (symbols : List Symbol) → is_long (named_strtab text symbols).section ≡ is_past (1 + names_total text symbols)
 unfolding named_strtab
-long_strtab text symbols = long_table 3 0 0 1 0 (name_table text symbols) ∙ ap is_past (length-name_table text symbols)
+long_strtab text symbols = long_table 3 0 0 1 0 (names_table text symbols) ∙ ap is_past (length-names_table text symbols)
 
 -- the names of the sections
 abbrev name_list : List Named → List ℕ
