@@ -12,8 +12,8 @@ pub returns-in_err-object : goal.returns-in_err-object
 unfolding object_steps
 returns-in_err-object g c =
     prepares_then (λ bytes. bytes.items) (λ bytes. bytes) _ _ _ _ _ _ _ c.in_ok-text.ensures.prepares
-    (prepares_first (λ object. object) (λ bytes. bytes) _ _ _ _ _ _ (search rules)
-    (prepares_own (λ object. object) _ _ _ (rw (← c.deref.ensures.value) c.in_err-object.ensures.decides)))
+    (rw (← c.deref.ensures.value) (prepares_first (λ object. object) (λ bytes. bytes) _ _ _ _ _ _ (search rules)
+    (prepares_own (λ object. object) _ _ _ c.in_err-object.ensures.decides)))
 
 pub returns : goal.returns
 unfolding object_steps
