@@ -28,8 +28,12 @@ fn outcome_of(alloc: Global, text: &[u8]) -> Outcome {
 
 /// The last four decimal digits of a number.
 fn four_digits(n: u32) -> [u8; 4] {
-    let digit = |scale: u32| b'0' + (n / scale % 10) as u8;
-    [digit(1_000), digit(100), digit(10), digit(1)]
+    [
+        b'0' + (n / 1_000 % 10) as u8,
+        b'0' + (n / 100 % 10) as u8,
+        b'0' + (n / 10 % 10) as u8,
+        b'0' + (n % 10) as u8,
+    ]
 }
 
 /// Adds so many sections of other names, each with this line in it.

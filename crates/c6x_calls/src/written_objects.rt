@@ -29,10 +29,9 @@ fn forty_sections(alloc: Global) -> Result<Vec<u8>, AllocError> {
     Ok(text)
 }
 
-/// The relocation table of the section with this index: its first word has ABS32 of the symbol behind the null symbol and
-/// the forty section symbols.
-fn relocation_of(n: u8) -> [u8; 12] {
-    [0, 0, 0, 0, 1, n + 41, 0, 0, 0, 0, 0, 0]
+/// The relocation table of a section: its first word has ABS32 of the symbol with this number.
+fn relocation_of(symbol: u8) -> [u8; 12] {
+    [0, 0, 0, 0, 1, symbol, 0, 0, 0, 0, 0, 0]
 }
 
 fn is_same(a: &Section, b: &Section) -> bool {
@@ -58,7 +57,7 @@ fn three_hundred_lines(rt: HostRuntime) -> Result<(), Fail> {
     for n in 0..40_u8 {
         let index = usize::from(n);
         assert!(&rt; sections[1 + index].bytes.as_bytes() == CONTENTS);
-        assert!(&rt; sections[41 + index].bytes.as_bytes() == relocation_of(n).as_slice());
+        assert!(&rt; sections[41 + index].bytes.as_bytes() == relocation_of(41 + n).as_slice());
     }
     assert_eq!(&rt; sections[81].bytes.as_bytes().len(), 16 * 81);
     assert_eq!(&rt; sections[82].bytes.as_bytes().len(), 161);
