@@ -105,11 +105,5 @@ fn put_slot_at<O: Sink>(
     ensures { Puts (slot_line_of placed.now index) (O.seen out.old) (O.seen out.new) result }
 {
     let value = board.read32(table + 4 * index);
-    put_slot(
-        out,
-        &placed.plan.process,
-        &placed.image.name,
-        index,
-        value,
-    )
+    put_slot(out, &placed.plan.process, &placed.image.name, index, value)
 }
