@@ -1,0 +1,2 @@
+//! Addresses of the parts of a linked module.
+#![tactic(auto)]

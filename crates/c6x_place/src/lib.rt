@@ -1,0 +1,2 @@
+//! Binding and placement of a plan's modules and processes.
+#![tactic(auto)]

@@ -1,0 +1,2 @@
+//! The search list of a process (SPRAB89, "Dynamic Linking").
+#![tactic(auto)]
