@@ -8,3 +8,4 @@ pub mod Options
 pub mod Results
 pub mod Rounded
 pub mod Places
+pub mod Firsts
