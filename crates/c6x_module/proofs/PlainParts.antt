@@ -1,14 +1,13 @@
-use Rattle.std.proofs.Common.{◌≡◌, ℕ, ◌+◌, ◌*◌, ◌%◌, ◌^◌, ◌<◌, ◌≤◌, List, [], ◌∷◌, length, take, drop, min, IsTrue, refl, sym, subst, arith, lit<, lit≤}
+use Rattle.std.proofs.Common.{◌≡◌, ℕ, ◌+◌, ◌≤◌, List, length, IsTrue, refl, sym, subst, arith, lit<, lit≤}
 use Rattle.c6x_spec.specs.Fields.{bits_of}
 use Rattle.std.proofs.lemmas.List.{length-take}
 use Rattle.c6x_elf.specs.Abi.{PF_R, PF_W, PF_X, PT_LOAD}
-use Rattle.c6x_elf.specs.declared.segment.Segment.{Segment}
 use Rattle.c6x_module.specs.declared.header.Head.{Head}
 use Rattle.c6x_module.specs.declared.module.Module.{Module}
 use Rattle.c6x_module.specs.Alignment.{is_alignment}
 use Rattle.c6x_module.specs.Heads.{IsRange, ArePlainParts}
-use Rattle.c6x_module.specs.Plain.{head_at, head_bytes, segment_of, tags_of, module_of, text_head, data_head, file_entry}
-use Rattle.c6x_module.specs.Valid.{IsLoadable, IsInside, IsTable, IsField, FieldsApart, IsValid, IsAlone}
+use Rattle.c6x_module.specs.Plain.{head_bytes, segment_of, module_of, text_head, data_head}
+use Rattle.c6x_module.specs.Valid.{IsLoadable, IsValid, IsAlone}
 
 -- a segment has no more bytes than its header says
 bytes_fit : (bytes : List ℕ) (head : Head) → length (head_bytes bytes head) ≤ head.filesz

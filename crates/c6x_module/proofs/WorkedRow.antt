@@ -1,10 +1,8 @@
 use lib.Count.{ones}
-use Rattle.std.proofs.Common.{◌≡◌, ℕ, List, [], ◌∷◌, ◌++◌, Bool, true, length, refl}
-use Rattle.std.specs.Prelude.{Option, Some}
+use Rattle.std.proofs.Common.{◌≡◌, ℕ, List, [], ◌∷◌, true, length, refl}
 use Rattle.std.specs.Int.{to_le_bytes, w32}
 use Rattle.std.specs.List.{flat_map}
 use Rattle.c6x_spec.specs.Numbers.{half_at, word_at}
-use Rattle.c6x_module.specs.declared.module.Module.{Module}
 use Rattle.c6x_module.specs.Plain.{is_plain, is_plain_header, head_at, is_in_file, head_bytes, is_loadable, are_apart, are_aligned, are_plain_heads, are_plain_entries, tags_of, is_table_inside, is_entry_inside, has_bytes, has_null_tables, is_plain_module, module_of, null_symbol}
 
 -- A worked row: the executable of the two words `MVK .S1 5,A4` and `BNOP .S2 B3,5`, as little-endian words. Its parts

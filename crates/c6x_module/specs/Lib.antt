@@ -3,3 +3,4 @@ pub mod Plain
 pub mod Heads
 pub mod Valid
 pub mod Answer
+pub mod Lookups

@@ -9,6 +9,7 @@ mod dynamics;
 mod error;
 mod field;
 mod header;
+mod lookups;
 mod module;
 mod module_error;
 mod module_rule;
