@@ -3,3 +3,6 @@ pub mod Splices
 pub mod RoundedUp
 pub mod LeastPlaces
 pub mod NumberBits
+pub mod Writes
+pub mod PartsHeld
+pub mod PartsInOrder

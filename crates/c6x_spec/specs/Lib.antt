@@ -9,3 +9,4 @@ pub mod Results
 pub mod Rounded
 pub mod Places
 pub mod Firsts
+pub mod Parts
