@@ -29,3 +29,6 @@ pub const MOST_STACK: u32 = 65_536;
 
 /// The slots of a module's table where a link plan does not tell.
 pub const TABLE: u32 = 64;
+
+/// The most slots of a module's table.
+pub const MOST_SLOTS: u32 = 1_024;
