@@ -10,6 +10,7 @@ mod entry_list;
 mod object_entry;
 mod part;
 mod part_list;
+mod region;
 mod sections;
 mod zone;
 
@@ -17,5 +18,6 @@ pub use entry_list::entries;
 pub use object_entry::ObjectEntry;
 pub use part::Part;
 pub use part_list::parts;
+pub use region::Region;
 pub use sections::{is_allocated, is_allocated_at, zone_of};
 pub use zone::Zone;
