@@ -1,0 +1,91 @@
+use c6x_module::Module;
+use std::alloc::Global;
+use std::marker::Model;
+
+/// The most modules of one owner. It is this project's own limit.
+pub const MOST_OWNED_MODULES: u32 = 256;
+
+/// The modules of a plan, in its order. Contracts see the list of the modules.
+#[derive(Debug, Drop)]
+pub struct Modules {
+    modules: Vec<Module>,
+}
+
+impl Model for Modules {
+    ghost use Rattle.std.specs.Prelude.{List};
+    ghost use Rattle.c6x_module.specs.declared.module.Module.{Module as Member};
+    ghost use Rattle.c6x_modules.specs.Owned.{AreModules};
+
+    ghost Value = { List Member };
+
+    ghost view = { λ m. m.modules.items };
+
+    ghost invariant = { λ m. AreModules m.modules.items };
+}
+
+impl Modules {
+    ghost use Rattle.std.specs.Prelude.{◌≡◌, ◌<◌, ◌≤◌, ◌∷◌, ◌++◌, [], length, Some, OnOk, IsNone};
+    ghost use Rattle.std.specs.List.{slice_get};
+    ghost use Rattle.c6x_module.specs.Lookups.{export_from, symbols_of};
+    ghost use Rattle.c6x_module.specs.Valid.{IsValid};
+    ghost use Rattle.c6x_modules.specs.Owned.{AreModules};
+
+    /// No modules. It takes no memory yet.
+    pub fn new(alloc: Global) -> Modules
+        ensures { result ≡ [] }
+    {
+        Modules {
+            modules: Vec::new(alloc),
+        }
+    }
+
+    /// How many modules there are.
+    pub fn len(&self) -> u32
+        ensures value { result ≡ length self.now }
+        ensures kept { AreModules self.now }
+    {
+        self.modules.len() as u32
+    }
+
+    /// The modules in their order.
+    pub fn as_slice(&self) -> &[Module]
+        ensures value { result.now ≡ self.now }
+        ensures kept { AreModules self.now }
+    {
+        &self.modules
+    }
+
+    /// The parts of the module with this number.
+    pub fn view(&self, number: u32) -> &Module
+        requires { number < length self.now }
+        ensures value { slice_get self.now number ≡ Some result.now }
+        ensures valid { IsValid result.now }
+    {
+        &self.modules[number as usize]
+    }
+
+    /// The lowest number of a symbol of that module that a look-up by this name may find; None exactly where there is none.
+    pub fn find(&self, number: u32, name: &[u8]) -> Option<u32>
+        requires { number < length self.now }
+        ensures { result ≡ export_from name.now 0 (symbols_of self.now number) }
+    {
+        export(self.view(number).symbols.as_slice(), name)
+    }
+}
+
+ghost use Rattle.std.specs.Prelude.{◌≡◌, ◌^◌, ◌<◌, length};
+ghost use Rattle.c6x_module.specs.Lookups.{export_from};
+
+/// The lowest number of a symbol of this name that a look-up may find.
+#[tactic(auto, using(crate::proofs::Walks::export_more))]
+fn export(symbols: &[c6x_module::DynSymbol], name: &[u8]) -> Option<u32>
+    requires { length symbols.now < 2 ^ 32 }
+    ensures { result ≡ export_from name.now 0 symbols.now }
+{
+    for (number, symbol) in symbols.iter().enumerate() {
+        if symbol.is_export() && symbol.name.as_bytes() == name {
+            return Some(number as u32);
+        }
+    }
+    None
+}
