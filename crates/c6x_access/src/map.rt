@@ -77,39 +77,3 @@ fn is_allowed(areas: &[Area], at: u32, len: u32, right: Right) -> bool
         left -= step;
     }
 }
-
-#[cfg(test)]
-mod tests {
-    use super::*;
-
-    const TEXT: Area = Area {
-        lo: 0x8000_0000,
-        len: 8,
-        read: true,
-        write: false,
-        run: true,
-    };
-
-    const STACK: Area = Area {
-        lo: 0x8000_0008,
-        len: 8,
-        read: true,
-        write: true,
-        run: false,
-    };
-
-    // Memory is ample here, so both areas are added.
-    #[test]
-    fn asks_each_byte(rt: HostRuntime) -> Result<(), AllocError> {
-        let mut map = Map::new(rt.alloc());
-        map.add(TEXT)?;
-        map.add(STACK)?;
-        assert!(rt; map.allows(0x8000_0006, 4, Right::Read));
-        assert!(rt; !map.allows(0x8000_0006, 4, Right::Write));
-        assert!(rt; map.allows(0x8000_000C, 4, Right::Write));
-        assert!(rt; !map.allows(0x8000_000D, 4, Right::Write));
-        assert!(rt; !map.allows(0x8000_0008, 4, Right::Run));
-        assert!(rt; !map.allows(0xFFFF_FFFF, 2, Right::Read));
-        Ok(())
-    }
-}

@@ -24,6 +24,3 @@ pub use places::{least_multiple, least_place, round_up};
 pub use range::Range;
 pub use row::Row;
 pub use side::Side;
-
-#[cfg(test)]
-mod tests;

@@ -1,7 +1,6 @@
 -- A file of segments alone is tidy.
-use Rattle.std.proofs.Common.{◌≡◌, ℕ, ◌+◌, ◌-◌, ◌*◌, ◌%◌, ◌<◌, ◌≤◌, ◌==◌, Bool, true, false, cond, max, List, [], ◌∷◌, ◌++◌, Option, None, Some, length, map, refl, sym, ap, ◌∙◌, sum_by, arith}
+use Rattle.std.proofs.Common.{◌≡◌, ℕ, ◌+◌, ◌-◌, ◌%◌, ◌≤◌, ◌==◌, Bool, true, false, cond, max, List, [], ◌∷◌, ◌++◌, Option, None, Some, length, map, refl, ap, sum_by, arith}
 use Rattle.std.specs.Int.{is_power_of_two}
-use Rattle.std.specs.Prelude.{All, IsTrue}
 use Rattle.std.proofs.lemmas.List.Sums.{sum_by-cons}
 use Rattle.c6x_spec.specs.Places.{least_place}
 use Rattle.c6x_elf_headers.specs.Header.{is_none_or_below}
@@ -9,7 +8,7 @@ use Rattle.c6x_elf_headers.specs.Rules.{Refusal, along_both, first_along}
 use Rattle.c6x_elf_headers.specs.declared.section_head.SectionHead.{SectionHead}
 use Rattle.c6x_elf.specs.Alone.{HasSegmentsAlone, segment_room}
 use Rattle.c6x_elf.specs.Entries.{named_refusal}
-use Rattle.c6x_elf.specs.Form.{HasReadForm, IsSized, IsTidy, own_head, section_length, segment_length}
+use Rattle.c6x_elf.specs.Form.{HasReadForm, IsTidy, own_head, section_length, segment_length}
 use Rattle.c6x_elf.specs.Parts.{fields_refusal}
 use Rattle.c6x_elf.specs.Writing.{end_of, home_of, offsets_end, spot_from, spot_of, spots_end, start_of, step_of, written_size}
 use Rattle.c6x_elf.specs.declared.file.File.{File}

@@ -43,11 +43,11 @@ held_push bytes [] (y ∷ ys) segment x same held here = absurd (omega arith)
 held_push bytes (s ∷ ss) [] segment x same held here = absurd (omega arith)
 held_push bytes (s ∷ ss) (y ∷ ys) segment x same held here = (held.0, held_push bytes ss ys segment x (omega arith) held.1 here)
 
-and_first : (a b : Bool) → (a && b) ≡ true → a ≡ true
+pub and_first : (a b : Bool) → (a && b) ≡ true → a ≡ true
 and_first true b is = refl
 and_first false b is = is
 
-and_later : (a b : Bool) → (a && b) ≡ true → b ≡ true
+pub and_later : (a b : Bool) → (a && b) ≡ true → b ≡ true
 and_later true b is = is
 and_later false b is = cc
 

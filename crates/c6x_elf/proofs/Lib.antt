@@ -8,6 +8,7 @@ pub mod Placed
 pub mod Puts
 pub mod ReadForm
 pub mod Spots
+pub mod Unders
 pub mod Unpacked
 pub mod Walks
 pub mod WayBack

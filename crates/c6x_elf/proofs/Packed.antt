@@ -1,20 +1,19 @@
 -- Read form put together from what its sections, tables and entries say.
-use Rattle.std.proofs.Common.{◌≡◌, ◌≢◌, ℕ, zero, suc, ◌+◌, ◌*◌, ◌/◌, ◌%◌, ◌<◌, ◌≤◌, ◌==◌, ◌&&◌, ◌||◌, ◌⊎◌, inl, inr, not, Bool, true, false, cond, List, [], ◌∷◌, Option, None, Some, is_some, length, map, get_or, nat_le, nat_lt, refl, sym, ap, ◌∙◌, subst, zero-add, sum_by, arith}
-use Rattle.std.specs.Prelude.{All, IsSome, IsTrue}
+use Rattle.std.proofs.Common.{◌≡◌, ◌≢◌, ℕ, zero, suc, ◌+◌, ◌*◌, ◌/◌, ◌%◌, ◌<◌, ◌≤◌, ◌==◌, ◌⊎◌, inl, inr, Bool, true, false, cond, List, [], ◌∷◌, Option, None, is_some, length, map, nat_lt, refl, sym, ap, ◌∙◌, subst, zero-add, arith}
+use Rattle.std.specs.Prelude.{All, IsSome}
 use Rattle.std.specs.List.{range_with_len}
 use Rattle.std.proofs.lemmas.Bool.Decides.{nat_tests}
 use Rattle.std.proofs.lemmas.List.FromFn.{get_or-map-range_with_len, length-map-range_with_len}
 use Rattle.c6x_spec.specs.Numbers.{half_at, word_at}
 use Rattle.c6x_elf_entries.specs.Entries.{rela_at, rela_entries, symbol_at, symbol_entries}
 use Rattle.c6x_elf_entries.specs.Names.{name_of}
-use Rattle.c6x_elf_headers.specs.Header.{is_file_type, is_none_or_below}
 use Rattle.c6x_elf_headers.specs.Rules.{Refusal, along_both, first_along, must}
 use Rattle.c6x_elf_headers.specs.declared.elf_rule.ElfRule.TheVariants.{EntrySize, Index, NoNul}
 use Rattle.c6x_elf_layout.proofs.Passing.{must_is}
 use Rattle.c6x_elf.specs.Entries.{entries_refusal, is_section_number, name_end, name_refusal, named_refusal, own_name_refusal, rela_refusal, relas_refusal, symbol_refusal, symbols_in, symbols_refusal, text_of}
-use Rattle.c6x_elf.specs.Form.{HasReadForm, IsSized, own_head, section_length, segment_length}
+use Rattle.c6x_elf.specs.Form.{HasReadForm, IsSized, own_head}
 use Rattle.c6x_elf.specs.Parts.{fields_refusal, has_entries, has_target, is_linked, is_relocation_table, is_symbol_table}
-use Rattle.c6x_elf.specs.Tables.{IsRelaOf, IsRelaTable, IsSectionOf, IsSymbolOf, IsSymbolTable, IsWellFormed}
+use Rattle.c6x_elf.specs.Tables.{IsRelaOf, IsSectionOf, IsSymbolOf, IsWellFormed}
 use Rattle.c6x_elf.specs.Writing.{section_head_at}
 use Rattle.c6x_elf.specs.declared.file.File.{File}
 use Rattle.c6x_elf.specs.declared.section.Section.{Section}

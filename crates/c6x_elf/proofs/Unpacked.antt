@@ -1,19 +1,14 @@
 -- Read form, taken apart section by section, and put together again.
-use Rattle.std.proofs.Common.{◌≡◌, ◌≢◌, ℕ, zero, suc, ◌+◌, ◌-◌, ◌*◌, ◌/◌, ◌%◌, ◌<◌, ◌≤◌, ◌==◌, ◌&&◌, ◌||◌, ◌⊎◌, inl, inr, not, Bool, true, false, cond, List, [], ◌∷◌, Option, None, Some, is_some, length, map, get_or, nat_le, nat_lt, refl, sym, ap, ◌∙◌, subst, zero-add, arith}
-use Rattle.std.specs.Prelude.{All, IsSome, IsTrue}
+use Rattle.std.proofs.Common.{◌≡◌, ◌≢◌, ℕ, zero, suc, ◌+◌, ◌*◌, ◌/◌, ◌%◌, ◌<◌, ◌≤◌, ◌==◌, ◌&&◌, ◌||◌, ◌⊎◌, inl, inr, not, Bool, true, false, cond, List, [], ◌∷◌, Option, None, is_some, length, map, nat_le, nat_lt, refl, sym, ap, ◌∙◌, subst, zero-add, arith}
+use Rattle.std.specs.Prelude.{All, IsSome}
 use Rattle.std.specs.List.{range_with_len}
 use Rattle.std.proofs.lemmas.Bool.Decides.{nat_tests}
 use Rattle.std.proofs.lemmas.List.FromFn.{get_or-map-range_with_len, length-map-range_with_len}
 use Rattle.c6x_spec.specs.Numbers.{half_at, word_at}
-use Rattle.c6x_elf_entries.specs.Attributes.{rela_symbol}
 use Rattle.c6x_elf_entries.specs.Entries.{rela_at, rela_entries, symbol_at, symbol_entries}
 use Rattle.c6x_elf_entries.specs.Names.{name_of}
-use Rattle.c6x_elf_entries.specs.declared.rela_entry.Rela.{Rela}
-use Rattle.c6x_elf_entries.specs.declared.symbol_entry.Symbol.{Symbol}
 use Rattle.c6x_elf_headers.specs.Rules.{Refusal, along_both, first_along, must}
 use Rattle.c6x_elf_headers.specs.declared.elf_rule.ElfRule.TheVariants.{EntrySize, Index, NoNul}
-use Rattle.c6x_elf_headers.specs.declared.section_head.SectionHead.{SectionHead}
-use Rattle.c6x_elf_layout.proofs.Passing.{must_is}
 use Rattle.c6x_elf.specs.Entries.{entries_refusal, is_section_number, name_refusal, named_refusal, own_name_refusal, rela_refusal, relas_refusal, symbol_refusal, symbols_in, symbols_refusal, text_of}
 use Rattle.c6x_elf.specs.Form.{HasReadForm, IsSized, own_head}
 use Rattle.c6x_elf.specs.Parts.{fields_refusal, has_bytes, has_entries, has_target, is_linked, is_relocation_table, is_symbol_table, section_size}
@@ -21,7 +16,6 @@ use Rattle.c6x_elf.specs.Tables.{IsRelaOf, IsRelaTable, IsSectionOf, IsSymbolOf,
 use Rattle.c6x_elf.specs.Writing.{section_head_at}
 use Rattle.c6x_elf.specs.declared.file.File.{File}
 use Rattle.c6x_elf.specs.declared.section.Section.{Section}
-use Rattle.c6x_elf.proofs.Moves.{both_none}
 use Rattle.c6x_elf.proofs.Placed.{must_holds, none_first, none_later}
 
 -- a name that its rules let pass

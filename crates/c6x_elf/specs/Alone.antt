@@ -1,5 +1,5 @@
 -- A file of segments alone, of bounded length.
-use Rattle.std.specs.Prelude.{◌≡◌, ℕ, ◌+◌, ◌≤◌, All, IsTrue, List, [], length, sum_by}
+use Rattle.std.specs.Prelude.{◌≡◌, ℕ, ◌+◌, ◌≤◌, All, IsTrue, [], length, sum_by}
 use Rattle.c6x_base.specs.declared.limits.TheConstants.{MOST_FILE_BYTES, MOST_SEGMENTS}
 use Rattle.c6x_elf_headers.specs.Header.{is_file_type}
 use Rattle.c6x_elf.specs.Form.{IsHeld}

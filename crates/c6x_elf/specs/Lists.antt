@@ -1,5 +1,5 @@
 -- A file's symbols and names as lists (gABI chapter 4, "Symbol Table" and "String Table").
-use Rattle.std.specs.Prelude.{ℕ, ◌==◌, ◌&&◌, Bool, true, List, [], ◌∷◌, Option, None, Some, drop, length, position, take, unwrap_or, if◌then◌else◌}
+use Rattle.std.specs.Prelude.{◌≡◌, ◌++◌, ℕ, ◌==◌, ◌&&◌, Bool, true, List, [], ◌∷◌, Option, None, Some, drop, length, position, take, unwrap_or, if◌then◌else◌}
 use Rattle.std.specs.Str.{bytes_eq}
 use Rattle.c6x_elf_entries.specs.Entries.{symbol_entries}
 use Rattle.c6x_elf_entries.specs.Names.{name_of}
@@ -35,3 +35,8 @@ is_end (byte ∷ bytes) = byte == 46
 
 unfoldable pub is_under : List ℕ → List ℕ → Bool
 is_under front name = bytes_eq (take (length front) name) front && is_end (drop (length front) name)
+
+-- The same as a relation.
+pub data IsUnder : List ℕ → List ℕ → Type 0 where
+  itself : {front name : List ℕ} → name ≡ front → IsUnder front name
+  dotted : {front name : List ℕ} (rest : List ℕ) → name ≡ front ++ 46 ∷ rest → IsUnder front name

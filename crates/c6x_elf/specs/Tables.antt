@@ -1,6 +1,6 @@
 -- What read form says of each section, table and entry of a file, in the terms of the gABI (chapter 4, "Section
 -- Header", "Symbol Table", "Relocation" and "String Table").
-use Rattle.std.specs.Prelude.{◌≡◌, ◌≢◌, ℕ, ◌+◌, ◌*◌, ◌%◌, ◌<◌, ◌≤◌, ◌⊎◌, All, Bool, IsSome, IsTrue, List, length, sum_by}
+use Rattle.std.specs.Prelude.{◌≡◌, ◌≢◌, ℕ, ◌+◌, ◌%◌, ◌<◌, ◌≤◌, ◌⊎◌, All, Bool, IsSome, IsTrue, List, length, sum_by}
 use Rattle.c6x_base.specs.declared.limits.TheConstants.{MOST_HELD_BYTES, MOST_SECTIONS, MOST_SEGMENTS}
 use Rattle.c6x_elf_entries.specs.Attributes.{rela_symbol}
 use Rattle.c6x_elf_entries.specs.Entries.{rela_entries, symbol_entries}

@@ -1,6 +1,7 @@
-ghost use Rattle.std.specs.Prelude.{Bool};
+ghost use Rattle.std.specs.Prelude.{ℕ, Bool, List, IsTrue};
 ghost use Rattle.c6x_elf.specs.Alone.{HasSegmentsAlone};
 ghost use Rattle.c6x_elf.specs.Form.{HasReadForm, IsTidy};
+ghost use Rattle.c6x_elf.specs.Lists.{IsUnder, is_under};
 ghost use Rattle.c6x_elf.specs.Tables.{IsWellFormed};
 ghost use Rattle.c6x_elf.specs.declared.file.File.{File};
 
@@ -13,4 +14,10 @@ pub fn read_form_is_well_formed()
 /// A file of few segments and no sections, of bounded length, is tidy.
 pub fn segments_alone_are_tidy()
     ensures { (big : Bool) (file : File) → HasSegmentsAlone file → IsTidy big file }
+{}
+
+/// A name is under another exactly where it is that name, or that name, a dot and more.
+pub fn names_are_under_their_front()
+    ensures says { (front : List ℕ) (name : List ℕ) → IsTrue (is_under front name) → IsUnder front name }
+    ensures holds { (front : List ℕ) (name : List ℕ) → IsUnder front name → IsTrue (is_under front name) }
 {}

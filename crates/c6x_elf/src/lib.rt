@@ -28,7 +28,7 @@ pub use c6x_elf_entries::{
 };
 pub use c6x_elf_headers::{ElfError, ElfRule};
 pub use file::File;
-pub use laws::{read_form_is_well_formed, segments_alone_are_tidy};
+pub use laws::{names_are_under_their_front, read_form_is_well_formed, segments_alone_are_tidy};
 pub use lists::{is_under, section_bytes, section_name, symbol_table, symbols};
 pub use reading::read_file;
 pub use section::Section;

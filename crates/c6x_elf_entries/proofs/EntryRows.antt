@@ -1,13 +1,13 @@
 -- Entries read back from the bytes that spell them.
-use Rattle.std.proofs.Common.{◌≡◌, ℕ, ℤ, zero, suc, ◌+◌, ◌*◌, ◌/◌, ◌^◌, ◌<◌, ◌≤◌, Bool, true, false, cond, List, [], ◌∷◌, ◌++◌, Option, None, Some, length, map, get_or, nat_le, refl, sym, ap, ◌∙◌, subst, append_assoc, append-nil, add-zero, zero-add, length-append, FitsSigned, arith}
+use Rattle.std.proofs.Common.{◌≡◌, ℕ, ℤ, zero, suc, ◌+◌, ◌*◌, ◌/◌, ◌^◌, ◌<◌, ◌≤◌, Bool, true, false, cond, List, [], ◌∷◌, ◌++◌, None, Some, length, map, nat_le, refl, sym, ap, ◌∙◌, subst, append_assoc, add-zero, zero-add, length-append, FitsSigned, arith}
 use Rattle.std.proofs.lemmas.Bool.Decides.{nat_tests}
 use Rattle.std.proofs.lemmas.Int.{ints, to_z-of_z}
-use Rattle.std.specs.Prelude.{All, slice_index}
+use Rattle.std.specs.Prelude.{All}
 use Rattle.std.specs.Int.{cast_signed, cast_unsigned, w32}
 use Rattle.std.specs.List.{flat_map, range_with_len, slice_get}
 use Rattle.std.proofs.lemmas.List.FromFn.{get_or-map-range_with_len, length-map-range_with_len, map-range_with_len_more}
 use Rattle.std.proofs.lemmas.Option.{slice_get-get_or, slice_get_past}
-use Rattle.c6x_spec.specs.Numbers.{half_at, word_at}
+use Rattle.c6x_spec.specs.Numbers.{word_at}
 use Rattle.c6x_elf_entries.specs.Entries.{dynamic_at, dynamic_entries, dynamic_of, rela_at, rela_entries, rela_of, symbol_at, symbol_entries, symbol_of}
 use Rattle.c6x_elf_entries.specs.EntryRows.{DynFits, RelaFits, SymbolFits, dynamic_row, dynamic_rows, rela_row, rela_rows, symbol_row, symbol_rows}
 use Rattle.c6x_elf_entries.specs.Held.{Holds}

@@ -1,14 +1,14 @@
 -- Names found again in a table of names.
-use Rattle.std.proofs.Common.{◌≡◌, ◌≢◌, ℕ, zero, suc, ◌+◌, ◌<◌, ◌≤◌, ◌==◌, Bool, true, false, cond, List, [], ◌∷◌, ◌++◌, Option, None, Some, length, take, drop, get_or, map, not, is_some, nat_le, nat_lt, option_map, position, refl, sym, ap, ◌∙◌, subst, append_assoc, append-nil, length-append, add-zero, arith}
+use Rattle.std.proofs.Common.{◌≡◌, ◌≢◌, ℕ, zero, suc, ◌+◌, ◌<◌, ◌≤◌, ◌==◌, true, false, cond, List, [], ◌∷◌, ◌++◌, Option, None, Some, length, take, drop, get_or, not, is_some, nat_le, nat_lt, option_map, position, refl, sym, ap, ◌∙◌, append_assoc, append-nil, length-append, arith}
 use Rattle.std.proofs.lemmas.Bool.Decides.{nat_tests}
 use Rattle.std.proofs.lemmas.Grind.{flat_map-append}
-use Rattle.std.proofs.lemmas.List.{drop_at, take_at, take_more}
-use Rattle.std.proofs.Math.Seq.{drop-append_seam, take-append_seam}
+use Rattle.std.proofs.lemmas.List.{drop_at}
+use Rattle.std.proofs.Math.Seq.{take-append_seam}
 use Rattle.std.specs.List.{flat_map, prefix_len}
 use Rattle.std.specs.Prelude.{All, IsSome}
 use Rattle.c6x_elf_entries.specs.Held.{Holds}
 use Rattle.c6x_elf_entries.specs.Names.{IsName, name_of, name_place, name_row, name_table}
-use Rattle.c6x_elf_entries.proofs.Holdings.{holds_all, holds_behind, holds_left, holds_right, holds_within}
+use Rattle.c6x_elf_entries.proofs.Holdings.{holds_behind, holds_within}
 
 -- one more name
 pub table_more : (names : List (List ℕ)) (old new name : List ℕ) → old ≡ name_table names → new ≡ (old ++ name) ++ 0 ∷ [] → new ≡ name_table (names ++ name ∷ [])
@@ -46,6 +46,16 @@ name_read table at name h is =
 pub name_behind : (old new name : List ℕ) → new ≡ (old ++ name) ++ 0 ∷ [] → IsName name → name_of new (length old) ≡ Some name
 name_behind old new name is good =
     name_read new (length old) name (holds_behind old (name_row name) new (length old) (is ∙ append_assoc old name (0 ∷ [])) refl) good
+
+-- a name of two parts
+joined : (old front name : List ℕ) → ((old ++ front) ++ name) ++ 0 ∷ [] ≡ (old ++ (front ++ name)) ++ 0 ∷ []
+joined old front name = ap (λ xs. xs ++ 0 ∷ []) (append_assoc old front name)
+
+pub table_joined : (names : List (List ℕ)) (old new front name : List ℕ) → old ≡ name_table names → new ≡ ((old ++ front) ++ name) ++ 0 ∷ [] → new ≡ name_table (names ++ (front ++ name) ∷ [])
+table_joined names old new front name was is = table_more names old new (front ++ name) was (is ∙ joined old front name)
+
+pub joined_behind : (old new front name : List ℕ) → new ≡ ((old ++ front) ++ name) ++ 0 ∷ [] → IsName (front ++ name) → name_of new (length old) ≡ Some (front ++ name)
+joined_behind old new front name is good = name_behind old new (front ++ name) (is ∙ joined old front name) good
 
 -- any name that a table holds, with a zero byte behind it, ends there
 prefix_within : (name rest : List ℕ) → prefix_len (λ b. not (b == 0)) (name ++ (0 ∷ rest)) ≤ length name

@@ -38,6 +38,3 @@ pub use symbol_entry::Symbol;
 pub use symbol_info::info_of;
 pub use visibility::Visibility;
 pub use writer::{put_dynamic, put_rela, put_symbol};
-
-#[cfg(test)]
-mod tests;

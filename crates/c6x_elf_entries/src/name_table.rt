@@ -45,6 +45,22 @@ impl NameTable {
         Ok(place)
     }
 
+    /// Puts a name of two parts behind the others; the answer is its place.
+    #[tactic(auto, using(crate::proofs::NameTables::table_joined, crate::proofs::NameTables::joined_behind))]
+    pub fn add_joined(&mut self, front: &[u8], name: &[u8]) -> Result<u32, AllocError>
+        requires { length self.old < 2 ^ 32 }
+        ensures place { IfOk result (λ place. place ≡ length self.old) }
+        ensures row { OnOk result (self.new ≡ self.old ++ name_row (front.now ++ name.now)) }
+        ensures table { OnOk result ((names : List (List ℕ)) → self.old ≡ name_table names → self.new ≡ name_table (names ++ (front.now ++ name.now) ∷ [])) }
+        ensures back { OnOk result (IsName (front.now ++ name.now) → name_of self.new (length self.old) ≡ Some (front.now ++ name.now)) }
+    {
+        let place = self.bytes.len() as u32;
+        self.bytes.extend_from_slice(front)?;
+        self.bytes.extend_from_slice(name)?;
+        self.bytes.push(0)?;
+        Ok(place)
+    }
+
     /// How many bytes there are.
     pub fn len(&self) -> usize
         ensures { result ≡ length self.now }

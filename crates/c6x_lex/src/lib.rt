@@ -17,6 +17,3 @@ pub use error::LexError;
 pub use kind::TokenKind;
 pub use lexer::lex;
 pub use token::Token;
-
-#[cfg(test)]
-mod tests;

@@ -16,6 +16,3 @@ pub use error::PacketError;
 pub use laws::{packet_at_words, split_is_packet_or_first_broken};
 pub use packet::Packet;
 pub use splitting::split;
-
-#[cfg(test)]
-mod tests;

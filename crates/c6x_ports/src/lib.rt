@@ -25,6 +25,3 @@ pub use shelf::{Shelf, ShelfError};
 pub use sink::{Sink, SinkError};
 pub use stored::Stored;
 pub use stream_sink::{ErrSink, OutSink, StreamSink};
-
-#[cfg(test)]
-mod tests;

@@ -17,6 +17,3 @@ pub use reloc_error::RelocError;
 pub use reloc_kind::RelocKind;
 pub use table::{is_instruction, kind_of, lowest_bit, number_of, origin_of, size_of, width};
 pub use valuing::{patch, value};
-
-#[cfg(test)]
-mod tests;

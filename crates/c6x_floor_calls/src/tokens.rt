@@ -1,4 +1,7 @@
-use crate::{LexError, Token, TokenKind, lex};
+ghost use Rattle.std.specs.Prelude.{◌<◌, ◌^◌, length};
+
+use c6x_lex::{LexError, Token, TokenKind, lex};
+use std::alloc::Global;
 use std::test::Fail;
 
 fn token(kind: TokenKind, at: u32, len: u32, line: u32) -> Token {
@@ -10,9 +13,16 @@ fn token(kind: TokenKind, at: u32, len: u32, line: u32) -> Token {
     }
 }
 
+/// The tokens of a text, with nothing known of them.
+fn tokens_of(alloc: Global, text: &[u8]) -> Result<Vec<Token>, LexError>
+    requires { length text.now < 2 ^ 32 }
+{
+    lex(alloc, text)
+}
+
 #[test]
 fn a_text_of_three_lines(rt: HostRuntime) -> Result<(), Fail> {
-    let tokens = lex(rt.alloc(), b"a: .sect \"x\" ; c\r\n||0x1fg +")?;
+    let tokens = tokens_of(rt.alloc(), b"a: .sect \"x\" ; c\r\n||0x1fg +")?;
     let expected = [
         token(TokenKind::Word, 0, 1, 1),
         token(TokenKind::Punctuator, 1, 1, 1),
@@ -30,7 +40,7 @@ fn a_text_of_three_lines(rt: HostRuntime) -> Result<(), Fail> {
 
 #[test]
 fn a_byte_that_starts_no_token(rt: HostRuntime) -> Result<(), Fail> {
-    let answer = lex(rt.alloc(), b"NOP\n  \"open");
+    let answer = tokens_of(rt.alloc(), b"NOP\n  \"open");
     assert!(rt; matches!(&answer, Err(LexError::BadByte { line: 2, column: 3 })));
     Ok(())
 }

@@ -1,4 +1,4 @@
-use crate::{Inputs, RelocError, RelocKind, kind_of, patch, value, width};
+use c6x_reloc::{Inputs, RelocError, RelocKind, kind_of, patch, value, width};
 
 /// Inputs of zeros but for the symbol's address.
 fn symbol_at(s: u32) -> Inputs {
@@ -12,16 +12,13 @@ fn symbol_at(s: u32) -> Inputs {
     }
 }
 
+/// The value of a kind, with nothing known of it.
+fn value_of(kind: RelocKind, inputs: Inputs) -> Result<u32, RelocError> {
+    value(kind, &inputs)
+}
+
 #[test]
-fn values_of_kinds(rt: HostRuntime) {
-    let got = Inputs {
-        a: 4,
-        ..symbol_at(0)
-    };
-    assert_eq!(&rt;
-        value(RelocKind::SBR_GOT_U15_W, &got),
-        Err(RelocError::Addend)
-    );
+fn values_of_symbols(rt: HostRuntime) {
     for (s, want) in [
         (0x40, Ok(16)),
         (0x003F_FFFC, Ok(0xF_FFFF)),
@@ -32,20 +29,36 @@ fn values_of_kinds(rt: HostRuntime) {
             p: 0x1C,
             ..symbol_at(s)
         };
-        assert_eq!(&rt; value(RelocKind::PCR_S21, &branch), want, "at {s}");
+        assert_eq!(&rt; value_of(RelocKind::PCR_S21, branch), want, "at {s}");
     }
     for (s, want) in [
         (131_068, Ok(32_767)),
         (131_072, Err(RelocError::Range)),
         (131_066, Err(RelocError::Align)),
     ] {
-        assert_eq!(&rt; value(RelocKind::SBR_U15_W, &symbol_at(s)), want, "at {s}");
+        assert_eq!(&rt;
+            value_of(RelocKind::SBR_U15_W, symbol_at(s)),
+            want,
+            "at {s}"
+        );
     }
+}
+
+#[test]
+fn values_of_addends_and_indexes(rt: HostRuntime) {
+    let got = Inputs {
+        a: 4,
+        ..symbol_at(0)
+    };
+    assert_eq!(&rt;
+        value_of(RelocKind::SBR_GOT_U15_W, got),
+        Err(RelocError::Addend)
+    );
     let below = Inputs {
         a: -4,
         ..symbol_at(0)
     };
-    assert_eq!(&rt; value(RelocKind::ABS32, &below), Ok(0xFFFF_FFFC));
+    assert_eq!(&rt; value_of(RelocKind::ABS32, below), Ok(0xFFFF_FFFC));
     for (index, want) in [
         (5, Ok(5)),
         (32_767, Ok(32_767)),
@@ -55,12 +68,12 @@ fn values_of_kinds(rt: HostRuntime) {
             index,
             ..symbol_at(0)
         };
-        assert_eq!(&rt; value(RelocKind::DSBT_INDEX, &module), want, "at {index}");
+        assert_eq!(&rt; value_of(RelocKind::DSBT_INDEX, module), want, "at {index}");
     }
 }
 
 #[test]
-#[tactic(auto, unfolding(crate::specs::Table::row_of))]
+#[tactic(auto, unfolding(c6x_reloc::specs::Table::row_of))]
 fn fields_of_kinds(rt: HostRuntime) {
     assert_eq!(&rt; kind_of(26), Err(RelocError::Kind));
     assert_eq!(&rt; kind_of(4), Ok(RelocKind::PCR_S21));
