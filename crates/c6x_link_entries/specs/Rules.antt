@@ -13,8 +13,8 @@ use Rattle.c6x_reloc.specs.declared.reloc_kind.RelocKind.TheVariants.{ABS32, JUM
 use Rattle.c6x_symbols.specs.declared.link_rule.LinkRule.{LinkRule}
 use Rattle.c6x_symbols.specs.declared.link_rule.LinkRule.TheVariants.{RelocRange, RelocAlign, GotAddend, TextAbsolute, CrossSegment, PlaceOutside, RelocKind as NoKind}
 use Rattle.c6x_link_entries.specs.declared.reference.Reference.{Reference}
-use Rattle.c6x_link_entries.specs.declared.region.Region.{Region}
-use Rattle.c6x_link_entries.specs.declared.region.Region.TheVariants.{Text, Data, Absolute as Fixed, Import}
+use Rattle.c6x_objects.specs.declared.region.Region.{Region}
+use Rattle.c6x_objects.specs.declared.region.Region.TheVariants.{Text, Data, Absolute as Fixed, Import}
 
 -- The first broken rule of two.
 infixr 5 ◌<|>◌

@@ -6,7 +6,7 @@ ghost use Rattle.c6x_reloc.specs.declared.origin.Origin.TheVariants.{Nothing};
 ghost use Rattle.c6x_reloc.specs.declared.reloc_kind.RelocKind.{RelocKind};
 
 use crate::reference::Reference;
-use crate::region::Region;
+use c6x_objects::Region;
 use c6x_reloc::{Origin, RelocError, RelocKind, is_instruction, origin_of, size_of, value};
 use c6x_symbols::LinkRule;
 

@@ -9,12 +9,11 @@ mod checking;
 mod entry;
 mod passing;
 mod reference;
-mod region;
 mod relas;
 
+pub use c6x_objects::Region;
 pub use checking::checked_value;
 pub use entry::{Entry, EntryError};
 pub use passing::set_entries;
 pub use reference::Reference;
-pub use region::Region;
 pub use relas::{dynamic_relas, is_dynamic};

@@ -1,4 +1,4 @@
-use crate::region::Region;
+use c6x_objects::Region;
 use c6x_reloc::{Inputs, RelocKind};
 
 /// What the rules on a relocation entry ask for.

@@ -3,8 +3,8 @@ ghost use Rattle.c6x_link_entries.specs.Entries.{NamesSymbol, dynamic_addend, dy
 
 use crate::entry::Entry;
 use crate::reference::Reference;
-use crate::region::Region;
 use c6x_elf::Rela;
+use c6x_objects::Region;
 use c6x_reloc::{RelocKind, number_of};
 use std::alloc::{AllocError, Global};
 
