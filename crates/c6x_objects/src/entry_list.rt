@@ -21,6 +21,20 @@ pub fn entries(alloc: Global, big: bool, objects: &[File]) -> Result<Vec<ObjectE
     Ok(entries)
 }
 
+/// The relocation entries of the object with this number that change sections with memory, in section and entry order.
+pub fn file_entries(
+    alloc: Global,
+    big: bool,
+    number: u32,
+    object: &File,
+) -> Result<Vec<ObjectEntry>, AllocError>
+    ensures { IfOk result (λ entries. entries.items ≡ file_entries big (number, object.now)) }
+{
+    let mut entries = Vec::new(alloc);
+    add_file(alloc, big, &mut entries, number, object)?;
+    Ok(entries)
+}
+
 /// Adds the entries of an object.
 #[tactic(auto, unfolding(crate::specs::Entries::file_entries), using(crate::proofs::Listed::filtered_more))]
 fn add_file(

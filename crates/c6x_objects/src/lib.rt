@@ -14,7 +14,7 @@ mod region;
 mod sections;
 mod zone;
 
-pub use entry_list::entries;
+pub use entry_list::{entries, file_entries};
 pub use object_entry::ObjectEntry;
 pub use part::Part;
 pub use part_list::parts;
