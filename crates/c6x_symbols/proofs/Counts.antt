@@ -12,6 +12,7 @@ use Rattle.c6x_elf.specs.declared.file.File.{File}
 use Rattle.c6x_elf.specs.declared.section.Section.{Section}
 use Rattle.c6x_elf.specs.TableEntries.{symbol_at, symbol_entries}
 use Rattle.std.specs.List.{range_with_len}
+use Rattle.c6x_objects.specs.Objects.{IsObject}
 use Rattle.c6x_symbols.specs.Mentions.{link_of}
 use Rattle.c6x_base.specs.declared.limits.TheConstants.{MOST_HELD_BYTES}
 
@@ -35,13 +36,13 @@ entries_few table small =
     let n : length (map (symbol_at false table) (range_with_len 0 (length table / 16))) ≡ length table / 16 = length-map (range_with_len 0 (length table / 16)) (symbol_at false table) ∙ length-range_with_len 0 (length table / 16) in
     omega (arith, n)
 
-pub symbols_few : (file : File) → HasReadForm false file → length (symbols_of false file.sections) ≤ 2 ^ 20
+pub symbols_few : (file : File) → IsObject false file → length (symbols_of false file.sections) ≤ 2 ^ 20
 unfolding symbols_of
-symbols_few file form = either (symtab_of file.sections)
+symbols_few file is_object = either (symtab_of file.sections)
   where
     either : (o : Option ℕ) → length (symbols_from false file.sections o) ≤ 2 ^ 20
     either None = omega arith
-    either (Some k) = entries_few (text_of file.sections k) (text_small file form k)
+    either (Some k) = entries_few (text_of file.sections k) (text_small file is_object.form k)
 
 pub link_here : (sections : List Section) (k : ℕ) (s : Section) → k < length sections → get_or (map link_of sections) k 0 ≡ (get_or sections k s).link
 link_here sections k s below = get_or-map link_of sections k s 0 below

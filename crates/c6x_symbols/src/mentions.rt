@@ -1,5 +1,6 @@
 ghost use Rattle.std.specs.Prelude.{◌≡◌, ◌+◌, ◌*◌, ◌^◌, ◌<◌, ◌≤◌, ◌++◌, false, List, All, OnOk, IfOk, length};
-ghost use Rattle.c6x_elf.specs.Form.{HasReadForm};
+ghost use Rattle.c6x_objects.specs.Objects.{IsObject};
+ghost use Rattle.c6x_plan.specs.declared.limits.TheConstants.{MOST_OBJECTS};
 ghost use Rattle.c6x_symbols.specs.Growth.{AreGroups};
 ghost use Rattle.c6x_symbols.specs.Mentions.{Named, mention_of, mentions_along, mentions_of, object_mentions, strings_of};
 
@@ -13,8 +14,8 @@ use std::alloc::{AllocError, Global};
 /// What is known of every name of the objects.
 #[tactic(auto, unfolding(crate::specs::Mentions::mentions_of), using(crate::proofs::Mentioned::mentions_more))]
 pub fn groups_of(alloc: Global, objects: &[File]) -> Result<Groups, AllocError>
-    requires few { length objects.now ≤ 256 }
-    requires form { All (HasReadForm false) objects.now }
+    requires few { length objects.now ≤ MOST_OBJECTS }
+    requires form { All (IsObject false) objects.now }
     ensures groups { IfOk result (λ groups. AreGroups (mentions_of objects.now) groups.names groups.list.items) }
     ensures few { IfOk result (λ groups. length groups.names ≤ 2 ^ 28) }
 {
@@ -34,7 +35,7 @@ fn add_object<'a>(
     object: &'a File,
 ) -> Result<(), AllocError>
     requires same { length groups.old.list.items ≡ length groups.old.names }
-    requires form { HasReadForm false object.now }
+    requires form { IsObject false object.now }
     ensures groups { OnOk result ((xs : List Named) → AreGroups xs groups.old.names groups.old.list.items → AreGroups (xs ++ object_mentions number object.now.sections) groups.new.names groups.new.list.items) }
     ensures same { OnOk result (length groups.new.list.items ≡ length groups.new.names) }
     ensures few { OnOk result (length groups.new.names ≤ length groups.old.names + 2 ^ 20) }

@@ -1,5 +1,6 @@
 ghost use Rattle.std.specs.Prelude.{◌≡◌, ◌≤◌, false, All, IfOk, None, length};
-ghost use Rattle.c6x_elf.specs.Form.{HasReadForm};
+ghost use Rattle.c6x_objects.specs.Objects.{IsObject};
+ghost use Rattle.c6x_plan.specs.declared.limits.TheConstants.{MOST_OBJECTS};
 ghost use Rattle.c6x_symbols.specs.Binding.{name_refusal};
 ghost use Rattle.c6x_symbols.specs.Bindings.{bindings_of, names_refusal};
 ghost use Rattle.c6x_symbols.specs.Rules.{Passes};
@@ -17,8 +18,8 @@ use std::alloc::Global;
 /// for each in order that it has at most one strong definition (K1), and that it is defined where no other module sees
 /// it (K2).
 pub fn resolve(alloc: Global, objects: &[File]) -> Result<Bindings, LinkError>
-    requires few { length objects.now ≤ 256 }
-    requires form { All (HasReadForm false) objects.now }
+    requires few { length objects.now ≤ MOST_OBJECTS }
+    requires form { All (IsObject false) objects.now }
     ensures passes { Passes result (names_refusal (bindings_of objects.now)) }
     ensures value { IfOk result (λ bindings. bindings ≡ bindings_of objects.now) }
 {
@@ -30,8 +31,8 @@ pub fn resolve(alloc: Global, objects: &[File]) -> Result<Bindings, LinkError>
 /// The names of the objects, whatever rules they break.
 #[tactic(auto, unfolding(crate::specs::Bindings::bindings_of), using(crate::proofs::Bound::all_bound, crate::proofs::Bound::in_step))]
 fn all_bindings(alloc: Global, objects: &[File]) -> Result<Bindings, LinkError>
-    requires few { length objects.now ≤ 256 }
-    requires form { All (HasReadForm false) objects.now }
+    requires few { length objects.now ≤ MOST_OBJECTS }
+    requires form { All (IsObject false) objects.now }
     ensures passes { Passes result None }
     ensures value { IfOk result (λ bindings. bindings ≡ bindings_of objects.now) }
 {
