@@ -30,6 +30,7 @@ pub use group::Group;
 pub use link_error::LinkError;
 pub use link_rule::LinkRule;
 pub use mention::Mention;
+pub use mentions::strings_of;
 pub use resolving::resolve;
 pub use rules::check;
 pub use source::Source;

@@ -95,7 +95,7 @@ fn add_symbol<'a>(
 
 /// The strings of the names of an object's symbols.
 #[tactic(auto, unfolding(crate::specs::Mentions::strings_of), using(crate::proofs::Counts::link_here))]
-fn strings_of(sections: &[Section]) -> &[u8]
+pub fn strings_of(sections: &[Section]) -> &[u8]
     ensures { result.now ≡ strings_of sections.now }
 {
     match symbol_table(sections) {
