@@ -1,3 +1,6 @@
 pub mod Cuts
 pub mod Parts
 pub mod Text
+pub mod LinesLeft
+pub mod Drafting
+pub mod LinkDrafting

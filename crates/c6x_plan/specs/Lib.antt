@@ -1,4 +1,11 @@
 pub mod Words
+pub mod Lines
+pub mod TextLines
+pub mod Rules
+pub mod LinkPlans
+pub mod LinkDrafts
+pub mod RunLines
+pub mod RunPlans
 pub mod Plain
 pub mod Answer
 pub mod Parts

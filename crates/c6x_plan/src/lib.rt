@@ -5,19 +5,29 @@
 #![tactic(auto)]
 
 mod error;
+mod first;
 pub mod limits;
 mod line;
+mod lines;
+mod link;
+mod link_draft;
+mod link_line;
 mod link_plan;
 mod module_plan;
 mod number;
 mod plain;
 mod plan;
 mod plan_error;
+mod plan_rule;
 mod process_plan;
+mod run_line;
 mod run_plan;
+mod slots;
+mod text_line;
 mod word;
 
 pub use error::PlainPlanError;
+pub use link::read_link_plan;
 pub use link_plan::LinkPlan;
 pub use module_plan::ModulePlan;
 pub use plain::read_plain_plan;

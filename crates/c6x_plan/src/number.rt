@@ -36,7 +36,7 @@ fn value_of(digits: &[u8]) -> u64
 
 /// The number of these digits, where it is one within the limits.
 #[tactic(auto, unfolding(crate::specs::Words::number_in))]
-fn number_in(digits: &[u8], least: u32, most: u32) -> Option<u32>
+pub fn number_in(digits: &[u8], least: u32, most: u32) -> Option<u32>
     ensures { result ≡ number_in least most digits.now }
 {
     if !is_number(digits) {

@@ -33,7 +33,7 @@ pub fn key<'a>(text: &'a [u8], word: &[u8], end: u8) -> Option<&'a [u8]>
 
 /// The bytes are a name.
 #[tactic(auto, unfolding(crate::specs::Words::is_name))]
-fn is_name(bytes: &[u8]) -> bool
+pub fn is_name(bytes: &[u8]) -> bool
     ensures { result ≡ is_name bytes.now }
 {
     1 <= bytes.len() && bytes.len() <= MOST_NAME_BYTES as usize && are_shown(bytes)
