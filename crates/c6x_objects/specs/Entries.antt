@@ -9,7 +9,7 @@ use Rattle.c6x_elf.specs.Types.{Rela}
 use Rattle.c6x_elf.specs.declared.file.File.{File}
 use Rattle.c6x_elf.specs.declared.section.Section.{Section}
 use Rattle.c6x_objects.specs.Sections.{is_allocated_at}
-use Rattle.c6x_objects.specs.Types.{ObjectEntry}
+use Rattle.c6x_objects.specs.declared.object_entry.ObjectEntry.{ObjectEntry}
 
 -- A table of relocation entries that change a section with memory.
 unfoldable pub is_used : List Section → Section → Bool

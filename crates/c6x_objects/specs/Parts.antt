@@ -5,7 +5,7 @@ use Rattle.c6x_elf.specs.Parts.{has_bytes}
 use Rattle.c6x_elf.specs.declared.file.File.{File}
 use Rattle.c6x_elf.specs.declared.section.Section.{Section}
 use Rattle.c6x_objects.specs.Sections.{is_allocated, zone_of}
-use Rattle.c6x_objects.specs.Types.{Part}
+use Rattle.c6x_objects.specs.declared.part.Part.{Part}
 
 -- The part that section number `number` of an object is.
 unfoldable pub part_of : ℕ → File → ℕ → Section → Part

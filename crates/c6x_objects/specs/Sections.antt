@@ -3,7 +3,7 @@ use Rattle.std.specs.Prelude.{ℕ, ◌==◌, ◌&&◌, ◌||◌, not, Bool, fals
 use Rattle.c6x_elf.specs.Abi.{SHF_ALLOC, SHF_EXECINSTR, SHF_WRITE}
 use Rattle.c6x_elf.specs.Lists.{is_under, section_name}
 use Rattle.c6x_elf.specs.declared.section.Section.{Section}
-use Rattle.c6x_objects.specs.Types.{Zone}
+use Rattle.c6x_objects.specs.declared.zone.Zone.{Zone}
 use Rattle.c6x_objects.specs.declared.zone.Zone.TheVariants.{Far, Near, Text}
 
 -- A bit of `sh_flags` is set.
