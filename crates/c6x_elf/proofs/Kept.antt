@@ -5,6 +5,7 @@ use Rattle.std.proofs.lemmas.List.{length_push, nil_from_length}
 use Rattle.std.proofs.lemmas.List.Sums.{sum_by-cons}
 use Rattle.std.proofs.lemmas.Slice.Eq.{bytes_eq-Decides}
 use Rattle.std.proofs.lemmas.Bool.Decides.{nat_tests}
+use Rattle.c6x_base.specs.declared.limits.TheConstants.{MOST_HELD_BYTES}
 use Rattle.c6x_elf_headers.specs.Rules.{along_both, along_parts, first_along, must}
 use Rattle.c6x_elf_headers.specs.declared.elf_rule.ElfRule.TheVariants.{Short, Large}
 use Rattle.c6x_elf_layout.specs.HeadRows.{SectionsStand, SegmentsStand}
@@ -131,14 +132,14 @@ segments_stand at k (segment ∷ segments) [] = tt
 segments_stand at k (segment ∷ segments) (x ∷ xs) = (refl, segments_stand at (k + 1) segments xs)
 
 -- a part in the file and within the sum breaks no rule
-part_keeps : (bytes : List ℕ) (before at size place : ℕ) → at + size ≤ length bytes → before + size ≤ 16777216 → part_refusal bytes before at size place ≡ None
+part_keeps : (bytes : List ℕ) (before at size place : ℕ) → at + size ≤ length bytes → before + size ≤ MOST_HELD_BYTES → part_refusal bytes before at size place ≡ None
 unfolding part_refusal is_within
 part_keeps bytes before at size place within few =
     let a = must_is (size == 0 || nat_le (at + size) (length bytes)) Short place (grind (arith, nat_tests)) in
-    let b = must_is (nat_le (before + size) 16777216) Large place (grind (arith, nat_tests)) in
-    both_none (must (size == 0 || nat_le (at + size) (length bytes)) Short place) (must (nat_le (before + size) 16777216) Large place) a b
+    let b = must_is (nat_le (before + size) MOST_HELD_BYTES) Large place (grind (arith, nat_tests)) in
+    both_none (must (size == 0 || nat_le (at + size) (length bytes)) Short place) (must (nat_le (before + size) MOST_HELD_BYTES) Large place) a b
 
-segment_keeps : (bytes : List ℕ) (before at : ℕ) (segment : Segment) (x : Spot) → Holds bytes x.at segment.bytes → before + length segment.bytes ≤ 16777216 → segment_refusal bytes before (segment_head_at at segment x) ≡ None
+segment_keeps : (bytes : List ℕ) (before at : ℕ) (segment : Segment) (x : Spot) → Holds bytes x.at segment.bytes → before + length segment.bytes ≤ MOST_HELD_BYTES → segment_refusal bytes before (segment_head_at at segment x) ≡ None
 unfolding segment_refusal segment_head_at
 segment_keeps bytes before at segment x held few =
     part_keeps bytes before x.at (length segment.bytes) (at + 4) (holds_within bytes x.at segment.bytes held) few
@@ -147,7 +148,7 @@ segment_head-size : (at : ℕ) (segment : Segment) (x : Spot) → segment_size (
 unfolding segment_head_at
 segment_head-size at segment x = refl
 
-pub segments_keep : (bytes : List ℕ) (at k before : ℕ) (segments : List Segment) (xs : List Spot) → SegmentsHeld bytes segments xs → before + sum_by segment_length segments ≤ 16777216 → along_parts segment_size (segment_refusal bytes) before (segment_heads_at at k segments xs) ≡ None
+pub segments_keep : (bytes : List ℕ) (at k before : ℕ) (segments : List Segment) (xs : List Spot) → SegmentsHeld bytes segments xs → before + sum_by segment_length segments ≤ MOST_HELD_BYTES → along_parts segment_size (segment_refusal bytes) before (segment_heads_at at k segments xs) ≡ None
 segments_keep bytes at k before [] xs held few = refl
 segments_keep bytes at k before (segment ∷ segments) [] held few = refl
 segments_keep bytes at k before (segment ∷ segments) (x ∷ xs) held few =
@@ -234,30 +235,30 @@ unfolding section_head_at section_size
 size_at at section x = refl
 
 -- no bytes break no rule
-none_keeps : (bytes : List ℕ) (before at place : ℕ) → before ≤ 16777216 → part_refusal bytes before at 0 place ≡ None
+none_keeps : (bytes : List ℕ) (before at place : ℕ) → before ≤ MOST_HELD_BYTES → part_refusal bytes before at 0 place ≡ None
 unfolding part_refusal is_within
 none_keeps bytes before at place few =
-    let b = must_is (nat_le (before + 0) 16777216) Large place (grind (arith, nat_tests)) in
-    both_none (must true Short place) (must (nat_le (before + 0) 16777216) Large place) (must_is true Short place refl) b
+    let b = must_is (nat_le (before + 0) MOST_HELD_BYTES) Large place (grind (arith, nat_tests)) in
+    both_none (must true Short place) (must (nat_le (before + 0) MOST_HELD_BYTES) Large place) (must_is true Short place refl) b
 
-section_within : (bytes : List ℕ) (there t : Bool) (size at before place : ℕ) (part : List ℕ) → there ≡ t → length part ≡ cond t size 0 → (there ≡ true → Holds bytes at part) → before + length part ≤ 16777216 → part_refusal bytes before at (cond t size 0) place ≡ None
+section_within : (bytes : List ℕ) (there t : Bool) (size at before place : ℕ) (part : List ℕ) → there ≡ t → length part ≡ cond t size 0 → (there ≡ true → Holds bytes at part) → before + length part ≤ MOST_HELD_BYTES → part_refusal bytes before at (cond t size 0) place ≡ None
 section_within bytes there true size at before place part is sized held few =
     let within = holds_within bytes at part (held is) in
     part_keeps bytes before at size place (omega arith) (omega arith)
 section_within bytes there false size at before place part is sized held few = none_keeps bytes before at place (omega arith)
 
-section_part_keeps : (bytes : List ℕ) (before at : ℕ) (section : Section) (x : ℕ) → IsSized section → (has_bytes section.kind ≡ true → Holds bytes x section.bytes) → before + length section.bytes ≤ 16777216 → part_refusal bytes before (section_head_at at section x).offset (section_size (section_head_at at section x)) ((section_head_at at section x).at + 16) ≡ None
+section_part_keeps : (bytes : List ℕ) (before at : ℕ) (section : Section) (x : ℕ) → IsSized section → (has_bytes section.kind ≡ true → Holds bytes x section.bytes) → before + length section.bytes ≤ MOST_HELD_BYTES → part_refusal bytes before (section_head_at at section x).offset (section_size (section_head_at at section x)) ((section_head_at at section x).at + 16) ≡ None
 unfolding section_head_at section_size
 section_part_keeps bytes before at section x sized held few =
     section_within bytes (has_bytes section.kind) (has_bytes section.kind) section.size x before (at + 16) section.bytes refl sized.size held few
 
-section_keeps : (bytes : List ℕ) (count before at : ℕ) (section : Section) (x : ℕ) → IsSized section → (has_bytes section.kind ≡ true → Holds bytes x section.bytes) → before + length section.bytes ≤ 16777216 → fields_refusal count (own_head section) ≡ None → section_refusal bytes count before (section_head_at at section x) ≡ None
+section_keeps : (bytes : List ℕ) (count before at : ℕ) (section : Section) (x : ℕ) → IsSized section → (has_bytes section.kind ≡ true → Holds bytes x section.bytes) → before + length section.bytes ≤ MOST_HELD_BYTES → fields_refusal count (own_head section) ≡ None → section_refusal bytes count before (section_head_at at section x) ≡ None
 unfolding section_refusal
 section_keeps bytes count before at section x sized held few fields =
     both_none (fields_refusal count (section_head_at at section x)) _ (fields_keep count at section x fields)
     (section_part_keeps bytes before at section x sized held few)
 
-pub sections_keep : (bytes : List ℕ) (count at k before : ℕ) (sections : List Section) (xs : List ℕ) → All IsSized sections → SectionsHeld bytes sections xs → before + sum_by section_length sections ≤ 16777216 → first_along (fields_refusal count) (map own_head sections) ≡ None → along_parts section_size (section_refusal bytes count) before (section_heads_at at k sections xs) ≡ None
+pub sections_keep : (bytes : List ℕ) (count at k before : ℕ) (sections : List Section) (xs : List ℕ) → All IsSized sections → SectionsHeld bytes sections xs → before + sum_by section_length sections ≤ MOST_HELD_BYTES → first_along (fields_refusal count) (map own_head sections) ≡ None → along_parts section_size (section_refusal bytes count) before (section_heads_at at k sections xs) ≡ None
 sections_keep bytes count at k before [] xs sized held few fields = refl
 sections_keep bytes count at k before (section ∷ sections) [] sized held few fields = refl
 sections_keep bytes count at k before (section ∷ sections) (x ∷ xs) sized held few fields =

@@ -1,5 +1,6 @@
 use Rattle.std.proofs.Common.{◌≡◌, ℕ, suc, ◌+◌, ◌-◌, ◌*◌, ◌≤◌, ◌==◌, Bool, true, false, cond, max, List, [], ◌∷◌, ◌++◌, Option, None, Some, length, replicate, refl, sym, ap, ◌∙◌, length-append, zero-add, subst, arith}
 use Rattle.std.proofs.lemmas.List.{length-replicate}
+use Rattle.c6x_base.specs.declared.limits.TheConstants.{MOST_FILE_BYTES}
 use Rattle.c6x_spec.specs.Rounded.{rounded}
 use Rattle.c6x_elf_headers.specs.declared.file_head.FileHead.{FileHead}
 use Rattle.c6x_elf_headers.specs.declared.section_head.SectionHead.{SectionHead}
@@ -199,10 +200,10 @@ written_from file front from is at =
     ∙ ap (λ zeros. zeros ++ ((front_part false file).bytes ++ laid ((front_part false file).at + length (front_part false file).bytes) rest)) (sym gap)
 
 -- the section headers lie in the written form
-fits_if : (none : Bool) (end n : ℕ) → none ≡ false → cond none end (rounded end 4 + 40 * n) ≤ 4194304 → cond none 0 (rounded end 4) + 40 * n ≤ 4194304
+fits_if : (none : Bool) (end n : ℕ) → none ≡ false → cond none end (rounded end 4 + 40 * n) ≤ MOST_FILE_BYTES → cond none 0 (rounded end 4) + 40 * n ≤ MOST_FILE_BYTES
 fits_if true end n some fits = cc
 fits_if false end n some fits = fits
 
-pub table_fits : (file : File) → (length file.sections == 0) ≡ false → written_size file ≤ 4194304 → sections_at file + 40 * length file.sections ≤ 4194304
+pub table_fits : (file : File) → (length file.sections == 0) ≡ false → written_size file ≤ MOST_FILE_BYTES → sections_at file + 40 * length file.sections ≤ MOST_FILE_BYTES
 unfolding written_size sections_at
 table_fits file some fits = fits_if (length file.sections == 0) (sections_end file) (length file.sections) some fits

@@ -1,6 +1,7 @@
 use Rattle.std.proofs.Common.{◌≡◌, ℕ, ◌+◌, ◌≤◌, Bool, true, false, List, [], ◌∷◌, Option, None, Some, length, take, drop, map, refl, sym, arith}
 use Rattle.std.proofs.lemmas.List.{length-map, length-take, length-drop}
 use Rattle.std.proofs.lemmas.Bool.Decides.{nat_tests}
+use Rattle.c6x_base.specs.declared.limits.TheConstants.{MOST_FILE_BYTES}
 use Rattle.c6x_elf_headers.specs.Rules.{Refusal, ◌<|>◌, along_parts, must}
 use Rattle.c6x_elf_headers.specs.declared.elf_rule.ElfRule.{ElfRule}
 use Rattle.c6x_elf_headers.specs.declared.elf_rule.ElfRule.TheVariants.{Short}
@@ -29,7 +30,7 @@ within_file : (bytes : List ℕ) (at size : ℕ) → is_within bytes at size ≡
 unfolding is_within
 within_file bytes at size is some = grind (arith, nat_tests, length-take {A = ℕ}, length-drop {A = ℕ})
 
-placed_in : (bytes : List ℕ) (count before : ℕ) (head : SectionHead) → length bytes ≤ 4194304 → section_refusal bytes count before head ≡ None → IsPlaced head (section_of bytes head)
+placed_in : (bytes : List ℕ) (count before : ℕ) (head : SectionHead) → length bytes ≤ MOST_FILE_BYTES → section_refusal bytes count before head ≡ None → IsPlaced head (section_of bytes head)
 unfolding section_refusal part_refusal section_of
 placed_in bytes count before head few passes = record {
   within = λ some.
@@ -39,14 +40,14 @@ placed_in bytes count before head few passes = record {
       omega arith;
 }
 
-placed_along : (bytes : List ℕ) (count before : ℕ) (heads : List SectionHead) → length bytes ≤ 4194304 → along_parts section_size (section_refusal bytes count) before heads ≡ None → ArePlaced heads (map (section_of bytes) heads)
+placed_along : (bytes : List ℕ) (count before : ℕ) (heads : List SectionHead) → length bytes ≤ MOST_FILE_BYTES → along_parts section_size (section_refusal bytes count) before heads ≡ None → ArePlaced heads (map (section_of bytes) heads)
 placed_along bytes count before [] few passes = tt
 placed_along bytes count before (head ∷ heads) few passes = (
   placed_in bytes count before head few (none_first _ _ passes),
   placed_along bytes count (before + section_size head) heads few (none_later (section_refusal bytes count before head) _ passes),
 )
 
-pub sections_placed : (big : Bool) (bytes : List ℕ) (head : FileHead) → length bytes ≤ 4194304 → sections_refusal big bytes head ≡ None → ArePlaced (section_heads_of big bytes head) (sections_of big bytes head)
+pub sections_placed : (big : Bool) (bytes : List ℕ) (head : FileHead) → length bytes ≤ MOST_FILE_BYTES → sections_refusal big bytes head ≡ None → ArePlaced (section_heads_of big bytes head) (sections_of big bytes head)
 unfolding sections_refusal sections_of
 sections_placed big bytes head few passes =
     placed_along bytes head.section_count (segments_total big bytes head) (section_heads_of big bytes head) few

@@ -1,5 +1,6 @@
 use Rattle.std.proofs.Common.{◌≡◌, ℕ, cond, ◌+◌, ◌*◌, ◌<◌, ◌≤◌, Bool, true, false, List, [], ◌∷◌, ◌++◌, length, drop, get_or, refl, sym, ap, ◌∙◌, append_assoc, subst}
 use Rattle.std.proofs.lemmas.List.{drop_more}
+use Rattle.c6x_base.specs.declared.limits.TheConstants.{MOST_FILE_BYTES}
 use Rattle.c6x_elf_layout.specs.HeadRows.{SectionsFit, SegmentsFit, section_rows, section_words, segment_rows, segment_words}
 use Rattle.c6x_elf_layout.specs.Laid.{InOrder, Part, laid}
 use Rattle.c6x_elf_entries.specs.Rows.{AreWords, word_row}
@@ -128,7 +129,7 @@ section_laid_step sections offsets k section d out new all from end rest below w
     ∙ was
 
 -- the first bound of those that are left
-pub within_here : (segments : List Segment) (spots : List Spot) (k : ℕ) (segment : Segment) (d : Spot) → k < length segments → k < length spots → segment ≡ get_or segments k segment → AreWithin (drop k segments) (drop k spots) → (get_or spots k d).at + length segment.bytes ≤ 4194304
+pub within_here : (segments : List Segment) (spots : List Spot) (k : ℕ) (segment : Segment) (d : Spot) → k < length segments → k < length spots → segment ≡ get_or segments k segment → AreWithin (drop k segments) (drop k spots) → (get_or spots k d).at + length segment.bytes ≤ MOST_FILE_BYTES
 within_here segments spots k segment d below inside is within =
     (rw (from_element segments k segment below is, drop_more spots k d inside) at within).0
 

@@ -4,6 +4,7 @@ use Rattle.std.proofs.lemmas.List.{length-drop, length-map, length-take}
 use Rattle.std.proofs.lemmas.List.FromFn.{length-map-range_with_len}
 use Rattle.std.proofs.lemmas.List.Sums.{sum_by-cons}
 use Rattle.std.proofs.lemmas.Bool.Decides.{nat_tests}
+use Rattle.c6x_base.specs.declared.limits.TheConstants.{MOST_HELD_BYTES}
 use Rattle.c6x_elf_headers.specs.Header.{HeadKeeps, is_none_or_below}
 use Rattle.c6x_elf_headers.specs.Heads.{section_head, section_heads, segment_head, segment_heads}
 use Rattle.c6x_elf_headers.specs.Rules.{along_both, along_parts, first_along, must}
@@ -28,14 +29,14 @@ within_length bytes at size is = grind (arith, nat_tests, length-take {A = ℕ},
 -- What a part that breaks no rule keeps.
 record PartKeeps (bytes : List ℕ) (before at size : ℕ) : Type 0 where
   whole : length (take size (drop at bytes)) ≡ size
-  few : before + size ≤ 16777216
+  few : before + size ≤ MOST_HELD_BYTES
 
 part_keeps : (bytes : List ℕ) (before at size place : ℕ) → part_refusal bytes before at size place ≡ None → PartKeeps bytes before at size
 unfolding part_refusal
 part_keeps bytes before at size place kept =
     let within = must (is_within bytes at size) Short place in
-    let few = must (nat_le (before + size) 16777216) Large place in
-    let test = must_holds (nat_le (before + size) 16777216) Large place (none_later within few kept) in
+    let few = must (nat_le (before + size) MOST_HELD_BYTES) Large place in
+    let test = must_holds (nat_le (before + size) MOST_HELD_BYTES) Large place (none_later within few kept) in
     record {
       whole = within_length bytes at size (must_holds (is_within bytes at size) Short place (none_first within few kept));
       few = grind (arith, nat_tests);
@@ -54,7 +55,7 @@ unfolding section_of
 section_of-length bytes head = refl
 
 -- the sums of the bytes
-segments_sum : (bytes : List ℕ) (before : ℕ) (heads : List SegmentHead) → before ≤ 16777216 → along_parts segment_size (segment_refusal bytes) before heads ≡ None → (sum_by segment_length (map (segment_of bytes) heads) ≡ sum_by segment_size heads) × (before + sum_by segment_size heads ≤ 16777216)
+segments_sum : (bytes : List ℕ) (before : ℕ) (heads : List SegmentHead) → before ≤ MOST_HELD_BYTES → along_parts segment_size (segment_refusal bytes) before heads ≡ None → (sum_by segment_length (map (segment_of bytes) heads) ≡ sum_by segment_size heads) × (before + sum_by segment_size heads ≤ MOST_HELD_BYTES)
 segments_sum bytes before [] few kept = (refl, omega arith)
 segments_sum bytes before (head ∷ heads) few kept =
     let rest = along_parts segment_size (segment_refusal bytes) (before + segment_size head) heads in
@@ -64,7 +65,7 @@ segments_sum bytes before (head ∷ heads) few kept =
     let b = sum_by-cons segment_size head heads in
     let c = segment_of-length bytes head in
     let d : sum_by segment_length (map (segment_of bytes) heads) ≡ sum_by segment_size heads = later.0 in
-    let e : before + segment_size head + sum_by segment_size heads ≤ 16777216 = later.1 in
+    let e : before + segment_size head + sum_by segment_size heads ≤ MOST_HELD_BYTES = later.1 in
     let f : length (take head.filesz (drop head.offset bytes)) ≡ head.filesz = here.whole in
     (omega arith, omega arith)
 
@@ -86,7 +87,7 @@ own_size bytes head = refl
 
 -- What sections that break no rule keep.
 record SectionsKeep (bytes : List ℕ) (count before : ℕ) (heads : List SectionHead) : Type 0 where
-  few : before + sum_by section_length (map (section_of bytes) heads) ≤ 16777216
+  few : before + sum_by section_length (map (section_of bytes) heads) ≤ MOST_HELD_BYTES
   fields : first_along (fields_refusal count) (map own_head (map (section_of bytes) heads)) ≡ None
   sized : All IsSized (map (section_of bytes) heads)
 
@@ -94,7 +95,7 @@ sized_more : (section : Section) (sections : List Section) → IsSized section �
 sized_more section sections here later zero d below = here
 sized_more section sections here later (suc k) d below = later k d (omega arith)
 
-sections_keep : (bytes : List ℕ) (count before : ℕ) (heads : List SectionHead) → before ≤ 16777216 → along_parts section_size (section_refusal bytes count) before heads ≡ None → SectionsKeep bytes count before heads
+sections_keep : (bytes : List ℕ) (count before : ℕ) (heads : List SectionHead) → before ≤ MOST_HELD_BYTES → along_parts section_size (section_refusal bytes count) before heads ≡ None → SectionsKeep bytes count before heads
 sections_keep bytes count before [] few kept = record {
   few = omega arith;
   fields = refl;
@@ -107,7 +108,7 @@ sections_keep bytes count before (head ∷ heads) few kept =
     let later = sections_keep bytes count (before + section_size head) heads here.few (none_later (section_refusal bytes count before head) rest kept) in
     let sum = sum_by-cons section_length (section_of bytes head) (map (section_of bytes) heads) in
     let size : section_length (section_of bytes head) ≡ section_size head = section_of-length bytes head ∙ here.whole in
-    let last : before + section_size head + sum_by section_length (map (section_of bytes) heads) ≤ 16777216 = later.few in
+    let last : before + section_size head + sum_by section_length (map (section_of bytes) heads) ≤ MOST_HELD_BYTES = later.few in
     record {
       few = omega arith;
       fields = both_none (fields_refusal count (own_head (section_of bytes head)))
@@ -172,7 +173,7 @@ parts_kept bytes head kept =
       names = none_later (sections_refusal false bytes head) (names_refusal false bytes head) tables;
     }
 
-sections_keep_of : (bytes : List ℕ) (head : FileHead) → sum_by segment_size (segment_heads_of false bytes head) ≤ 16777216 → sections_refusal false bytes head ≡ None → SectionsKeep bytes head.section_count (sum_by segment_size (segment_heads_of false bytes head)) (section_heads_of false bytes head)
+sections_keep_of : (bytes : List ℕ) (head : FileHead) → sum_by segment_size (segment_heads_of false bytes head) ≤ MOST_HELD_BYTES → sections_refusal false bytes head ≡ None → SectionsKeep bytes head.section_count (sum_by segment_size (segment_heads_of false bytes head)) (section_heads_of false bytes head)
 sections_keep_of bytes head few kept =
     sections_keep bytes head.section_count (sum_by segment_size (segment_heads_of false bytes head)) (section_heads_of false bytes head) few
     (sections_kept bytes head kept)
@@ -184,9 +185,9 @@ parts_have_form bytes head keeps kept =
     let parts = parts_kept bytes head kept in
     let sums = segments_sum bytes 0 (segment_heads_of false bytes head) (omega arith) (segments_kept bytes head parts.segments) in
     let same : sum_by segment_length (map (segment_of bytes) (segment_heads_of false bytes head)) ≡ sum_by segment_size (segment_heads_of false bytes head) = sums.0 in
-    let total : 0 + sum_by segment_size (segment_heads_of false bytes head) ≤ 16777216 = sums.1 in
+    let total : 0 + sum_by segment_size (segment_heads_of false bytes head) ≤ MOST_HELD_BYTES = sums.1 in
     let tables = sections_keep_of bytes head (omega arith) parts.sections in
-    let last : sum_by segment_size (segment_heads_of false bytes head) + sum_by section_length (map (section_of bytes) (section_heads_of false bytes head)) ≤ 16777216 = tables.few in
+    let last : sum_by segment_size (segment_heads_of false bytes head) + sum_by section_length (map (section_of bytes) (section_heads_of false bytes head)) ≤ MOST_HELD_BYTES = tables.few in
     let count : length (map (section_of bytes) (section_heads_of false bytes head)) ≡ head.section_count = section_count bytes head in
     let Names : ℕ → Type 0 = λ n. is_none_or_below head.names n ≡ true in
     let Fields : ℕ → Type 0 = λ n. first_along (fields_refusal n) (map own_head (map (section_of bytes) (section_heads_of false bytes head))) ≡ None in

@@ -1,5 +1,6 @@
 use Rattle.std.proofs.Common.{◌≡◌, ℕ, ◌+◌, ◌<◌, ◌≤◌, Bool, true, false, List, [], ◌∷◌, ◌++◌, Option, None, Some, length, take, drop, get_or, refl, sym, ap, ◌∙◌, append_assoc, cond, max, arith}
 use Rattle.std.proofs.lemmas.List.{drop_more, take_more}
+use Rattle.c6x_base.specs.declared.limits.TheConstants.{MOST_FILE_BYTES}
 use Rattle.c6x_spec.specs.Rounded.{rounded}
 use Rattle.c6x_spec.proofs.LeastPlaces.{above_place}
 use Rattle.c6x_elf.specs.Parts.{has_bytes}
@@ -57,13 +58,13 @@ pub spots_end_pushed : (segments : List Segment) (had new : List Spot) (from k :
 spots_end_pushed segments had new from k segment spot end total below is made pushed ends was =
     rw (ends, pushed, made) (sym (spots_end_step segments had from k segment below is) ∙ was)
 
-within_push : (segments : List Segment) (had : List Spot) (segment : Segment) (spot : Spot) → length had ≡ length segments → AreWithin segments had → spot.at + length segment.bytes ≤ 4194304 → AreWithin (segments ++ segment ∷ []) (had ++ spot ∷ [])
+within_push : (segments : List Segment) (had : List Spot) (segment : Segment) (spot : Spot) → length had ≡ length segments → AreWithin segments had → spot.at + length segment.bytes ≤ MOST_FILE_BYTES → AreWithin (segments ++ segment ∷ []) (had ++ spot ∷ [])
 within_push [] [] segment spot same within fits = (fits, tt)
 within_push [] (x ∷ xs) segment spot same within fits = absurd (omega arith)
 within_push (s ∷ ss) [] segment spot same within fits = absurd (omega arith)
 within_push (s ∷ ss) (x ∷ xs) segment spot same within fits = (within.0, within_push ss xs segment spot (omega arith) within.1 fits)
 
-pub within_pushed : (segments : List Segment) (had new : List Spot) (k : ℕ) (segment : Segment) (spot : Spot) → k < length segments → segment ≡ get_or segments k segment → length had ≡ length (take k segments) → new ≡ had ++ spot ∷ [] → AreWithin (take k segments) had → spot.at + length segment.bytes ≤ 4194304 → AreWithin (take (k + 1) segments) new
+pub within_pushed : (segments : List Segment) (had new : List Spot) (k : ℕ) (segment : Segment) (spot : Spot) → k < length segments → segment ≡ get_or segments k segment → length had ≡ length (take k segments) → new ≡ had ++ spot ∷ [] → AreWithin (take k segments) had → spot.at + length segment.bytes ≤ MOST_FILE_BYTES → AreWithin (take (k + 1) segments) new
 within_pushed segments had new k segment spot below is same pushed within fits =
     rw (pushed, to_element segments k segment below is) (within_push (take k segments) had segment spot same within fits)
 
@@ -96,13 +97,13 @@ offsets_end_above from (section ∷ sections) =
     omega (arith, offset_end_above from section, offsets_end_above (offset_end from section) sections)
 
 -- the whole is past the limit where a part of it is
-pub place_past : (segments : List Segment) (had : List Spot) (from k : ℕ) (segment : Segment) (total : ℕ) → k < length segments → segment ≡ get_or segments k segment → spots_end (take k segments) had from (drop k segments) ≡ total → 4194304 < end_of (spot_of (take k segments) had from segment) from segment → 4194304 < total
+pub place_past : (segments : List Segment) (had : List Spot) (from k : ℕ) (segment : Segment) (total : ℕ) → k < length segments → segment ≡ get_or segments k segment → spots_end (take k segments) had from (drop k segments) ≡ total → MOST_FILE_BYTES < end_of (spot_of (take k segments) had from segment) from segment → MOST_FILE_BYTES < total
 place_past segments had from k segment total below is whole past =
     let spot = spot_of (take k segments) had from segment in
     let above = spots_end_above (take (k + 1) segments) (had ++ spot ∷ []) (end_of spot from segment) (drop (k + 1) segments) in
     omega (arith, above, spots_end_step segments had from k segment below is, whole)
 
-pub offset_past : (sections : List Section) (at k : ℕ) (section : Section) (total : ℕ) → k < length sections → section ≡ get_or sections k section → offsets_end at (drop k sections) ≡ total → 4194304 < offset_end at section → 4194304 < total
+pub offset_past : (sections : List Section) (at k : ℕ) (section : Section) (total : ℕ) → k < length sections → section ≡ get_or sections k section → offsets_end at (drop k sections) ≡ total → MOST_FILE_BYTES < offset_end at section → MOST_FILE_BYTES < total
 offset_past sections at k section total below is whole past =
     let step : offsets_end at (drop k sections) ≡ offsets_end (offset_end at section) (drop (k + 1) sections) =
     ap (offsets_end at) (from_element sections k section below is) in

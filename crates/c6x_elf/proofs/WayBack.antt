@@ -1,6 +1,7 @@
 use Rattle.std.proofs.Common.{◌≡◌, ℕ, ◌+◌, ◌*◌, ◌≤◌, ◌==◌, ◌||◌, Bool, true, false, cond, List, [], ◌∷◌, ◌++◌, None, length, map, sum_by, nat_le, refl, sym, ap, ◌∙◌, zero-add, subst, arith}
 use Rattle.std.proofs.lemmas.List.{nil_from_length}
 use Rattle.std.proofs.lemmas.Bool.Decides.{nat_tests}
+use Rattle.c6x_base.specs.declared.limits.TheConstants.{MOST_FILE_BYTES}
 use Rattle.c6x_spec.specs.Rounded.{rounded}
 use Rattle.c6x_elf_headers.specs.Header.{HeadKeeps, header_refusal}
 use Rattle.c6x_elf_headers.specs.Heads.{file_head, is_big, section_heads, segment_heads}
@@ -30,7 +31,7 @@ use Rattle.c6x_elf.proofs.Orders.{chain_order, front-at, length-file_row, length
 record IsBack (file : File) (bytes : List ℕ) : Type 0 where
   reads : ReadsHead false bytes (head_of file)
   long : 52 ≤ length bytes
-  short : length bytes ≤ 4194304
+  short : length bytes ≤ MOST_FILE_BYTES
   room : start_of file ≤ length bytes
   table_room : (length file.sections == 0) ≡ false → sections_at file + 40 * length file.sections ≤ length bytes
   segments : SegmentsHeld bytes file.segments (spots_of file)

@@ -1,5 +1,6 @@
 use Rattle.std.specs.Prelude.{ℕ, zero, suc, ◌+◌, ◌*◌, ◌/◌, ◌≤◌, ◌==◌, ◌||◌, Bool, List, [], ◌∷◌, Option, None, is_some, length, map, nat_le, nat_lt, slice_index_or, if◌then◌else◌}
 use Rattle.std.specs.List.{range_with_len}
+use Rattle.c6x_base.specs.declared.limits.TheConstants.{MOST_FILE_BYTES}
 use Rattle.c6x_spec.specs.Numbers.{half_at, word_at}
 use Rattle.c6x_elf_entries.specs.Names.{name_of}
 use Rattle.c6x_elf_entries.specs.declared.abi.TheConstants.{SHN_LORESERVE}
@@ -83,7 +84,7 @@ name_ends sections = map section_end sections
 
 -- A section's bytes, if it has any, lie in the first 4,194,304 bytes, the most that a file has.
 pub record IsPlaced (head : SectionHead) (section : Section) : Type 0 where
-  pub within : 1 ≤ length section.bytes → head.offset + length section.bytes ≤ 4194304
+  pub within : 1 ≤ length section.bytes → head.offset + length section.bytes ≤ MOST_FILE_BYTES
 
 abbrev pub ArePlaced : List SectionHead → List Section → Type 0
 ArePlaced [] sections = Unit {0}

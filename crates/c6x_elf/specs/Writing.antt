@@ -1,6 +1,7 @@
 use Rattle.std.specs.Prelude.{ℕ, ◌+◌, ◌-◌, ◌*◌, ◌≤◌, ◌==◌, ◌&&◌, max, Bool, true, false, List, [], ◌∷◌, ◌++◌, Option, None, Some, length, nat_le, nat_lt, take, drop, if◌then◌else◌}
 use Rattle.std.specs.Int.{is_power_of_two}
 use Rattle.std.specs.Str.{bytes_eq}
+use Rattle.c6x_base.specs.declared.limits.TheConstants.{MOST_FILE_BYTES}
 use Rattle.c6x_spec.specs.Places.{least_place}
 use Rattle.c6x_spec.specs.Rounded.{rounded}
 use Rattle.c6x_elf_entries.specs.declared.abi.TheConstants.{PT_LOAD}
@@ -201,7 +202,7 @@ abbrev pub AreWithin : List Segment → List Spot → Type 0
 AreWithin [] spots = Unit {0}
 AreWithin (segment ∷ segments) [] = Unit {0}
 AreWithin (segment ∷ segments) (spot ∷ spots) =
-    (spot.at + length segment.bytes ≤ 4194304) × AreWithin segments spots
+    (spot.at + length segment.bytes ≤ MOST_FILE_BYTES) × AreWithin segments spots
 
 -- Each number of the written headers has its size.
 pub record FileSizes (file : File) : Type 0 where

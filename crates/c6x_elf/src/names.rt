@@ -1,5 +1,6 @@
 ghost use Rattle.std.specs.Prelude.{◌≡◌, ◌+◌, ◌*◌, ◌/◌, ◌<◌, ◌≤◌, length, IfOk};
 ghost use Rattle.std.specs.List.{range_with_len};
+ghost use Rattle.c6x_base.specs.declared.limits.TheConstants.{MOST_FILE_BYTES};
 ghost use Rattle.c6x_elf_headers.specs.Rules.{along_both, first_along, Passes};
 ghost use Rattle.c6x_elf.specs.Entries.{ArePlaced, entries_refusal, IsPlaced, is_section_number, name_end, name_ends, name_refusal, named_refusal, own_name_refusal, rela_refusal, relas_refusal, symbol_refusal, symbols_in, symbols_refusal, text_of};
 
@@ -76,7 +77,7 @@ fn check_entries(
     table: &[u8],
 ) -> Result<(), ElfError>
     requires ends { ends.now ≡ name_ends sections.now }
-    requires placed { 1 ≤ length table.now → head.now.offset + length table.now ≤ 4194304 }
+    requires placed { 1 ≤ length table.now → head.now.offset + length table.now ≤ MOST_FILE_BYTES }
     ensures { Passes result (entries_refusal big sections.now head.now table.now) }
 {
     if is_symbol_table(head.kind) {
@@ -98,7 +99,7 @@ fn check_symbols(
     table: &[u8],
 ) -> Result<(), ElfError>
     requires ends { ends.now ≡ name_ends sections.now }
-    requires placed { 1 ≤ length table.now → head.now.offset + length table.now ≤ 4194304 }
+    requires placed { 1 ≤ length table.now → head.now.offset + length table.now ≤ MOST_FILE_BYTES }
     ensures { Passes result (symbols_refusal big sections.now head.now table.now) }
 {
     for k in 0..table.len() / 16 {
@@ -115,7 +116,7 @@ fn check_relas(
     head: &SectionHead,
     table: &[u8],
 ) -> Result<(), ElfError>
-    requires { 1 ≤ length table.now → head.now.offset + length table.now ≤ 4194304 }
+    requires { 1 ≤ length table.now → head.now.offset + length table.now ≤ MOST_FILE_BYTES }
     ensures { Passes result (relas_refusal big sections.now head.now table.now) }
 {
     for k in 0..table.len() / 12 {
@@ -136,7 +137,7 @@ fn check_symbol(
 ) -> Result<(), ElfError>
     requires ends { ends.now ≡ name_ends sections.now }
     requires within { 16 * k + 16 ≤ length table.now }
-    requires placed { head.now.offset + length table.now ≤ 4194304 }
+    requires placed { head.now.offset + length table.now ≤ MOST_FILE_BYTES }
     ensures { Passes result (symbol_refusal big sections.now head.now table.now k) }
 {
     let at = 16 * k;
@@ -160,7 +161,7 @@ fn check_rela(
     k: usize,
 ) -> Result<(), ElfError>
     requires within { 12 * k + 12 ≤ length table.now }
-    requires placed { head.now.offset + length table.now ≤ 4194304 }
+    requires placed { head.now.offset + length table.now ≤ MOST_FILE_BYTES }
     ensures { Passes result (rela_refusal big sections.now head.now table.now k) }
 {
     let at = 12 * k;

@@ -1,4 +1,5 @@
 ghost use Rattle.std.specs.Prelude.{◌≡◌, ◌+◌, ◌*◌, ◌^◌, ◌<◌, ◌≤◌, length, take, drop, IsTrue, IfOk, OnOk};
+ghost use Rattle.c6x_base.specs.declared.limits.TheConstants.{MOST_FILE_BYTES, MOST_HELD_BYTES};
 ghost use Rattle.c6x_elf_headers.specs.Rules.{Passes};
 ghost use Rattle.c6x_elf.specs.Parts.{are_within, fields_refusal, has_bytes, has_entries, has_target, is_linked, is_relocation_table, is_symbol_table, is_within, part_refusal, section_of, section_refusal, section_size, segment_of, segment_refusal};
 
@@ -18,10 +19,10 @@ pub fn segment_in(
     before: u32,
     head: &SegmentHead,
 ) -> Result<Segment, ElfError>
-    requires { head.now.at + 32 ≤ 4194304 }
+    requires { head.now.at + 32 ≤ MOST_FILE_BYTES }
     ensures passes { Passes result (segment_refusal bytes.now before head.now) }
     ensures value { IfOk result (λ segment. segment ≡ segment_of bytes.now head.now) }
-    ensures few { OnOk result (before + head.now.filesz ≤ 16777216) }
+    ensures few { OnOk result (before + head.now.filesz ≤ MOST_HELD_BYTES) }
 {
     check_part(bytes, before, head.offset, head.filesz, head.at + 4)?;
     Ok(Segment {
@@ -44,10 +45,10 @@ pub fn section_in(
     before: u32,
     head: &SectionHead,
 ) -> Result<Section, ElfError>
-    requires { head.now.at + 40 ≤ 4194304 }
+    requires { head.now.at + 40 ≤ MOST_FILE_BYTES }
     ensures passes { Passes result (section_refusal bytes.now count before head.now) }
     ensures value { IfOk result (λ section. section ≡ section_of bytes.now head.now) }
-    ensures few { OnOk result (before + section_size head.now ≤ 16777216) }
+    ensures few { OnOk result (before + section_size head.now ≤ MOST_HELD_BYTES) }
 {
     check_fields(count, head)?;
     let size = section_size(head);
@@ -111,7 +112,7 @@ pub fn are_within(bytes: &[u8], at: u32, size: u16, count: u16) -> bool
 /// The fields of one of `count` section headers.
 #[tactic(auto, unfolding(crate::specs::Parts::fields_refusal))]
 fn check_fields(count: u16, head: &SectionHead) -> Result<(), ElfError>
-    requires { head.now.at + 40 ≤ 4194304 }
+    requires { head.now.at + 40 ≤ MOST_FILE_BYTES }
     ensures { Passes result (fields_refusal count head.now) }
 {
     check(
@@ -164,7 +165,7 @@ fn has_entries(kind: u32, size: u32, entsize: u32) -> bool
 fn check_part(bytes: &[u8], before: u32, at: u32, size: u32, place: u32) -> Result<(), ElfError>
     ensures passes { Passes result (part_refusal bytes.now before at size place) }
     ensures within { OnOk result (IsTrue (is_within bytes.now at size)) }
-    ensures few { OnOk result (before + size ≤ 16777216) }
+    ensures few { OnOk result (before + size ≤ MOST_HELD_BYTES) }
 {
     check(is_within(bytes, at, size), ElfRule::Short, place)?;
     check(

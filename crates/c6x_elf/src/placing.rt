@@ -1,4 +1,5 @@
 ghost use Rattle.std.specs.Prelude.{◌≡◌, ◌+◌, ◌≤◌, ◌<◌, ◌^◌, [], length, IsTrue, IfOk, IfSome, IfNone};
+ghost use Rattle.c6x_base.specs.declared.limits.TheConstants.{MOST_FILE_BYTES};
 ghost use Rattle.c6x_elf.specs.Writing.{AreWithin, end_of, home_of, is_inside, offset_end, offset_of, offsets, offsets_end, spot_of, spots, spots_end, step_of};
 
 use crate::parts::has_bytes;
@@ -17,12 +18,12 @@ pub fn place_segments(
     segments: &[Segment],
     start: u32,
 ) -> Result<Option<(Vec<Spot>, u32)>, AllocError>
-    requires { start ≤ 4194304 }
+    requires { start ≤ MOST_FILE_BYTES }
     ensures spots { IfOk result (λ made. IfSome made (λ m. m.0.items ≡ spots [] [] start segments.now)) }
     ensures end { IfOk result (λ made. IfSome made (λ m. m.1 ≡ spots_end [] [] start segments.now)) }
-    ensures few { IfOk result (λ made. IfSome made (λ m. m.1 ≤ 4194304)) }
+    ensures few { IfOk result (λ made. IfSome made (λ m. m.1 ≤ MOST_FILE_BYTES)) }
     ensures within { IfOk result (λ made. IfSome made (λ m. AreWithin segments.now m.0.items)) }
-    ensures past { IfOk result (λ made. IfNone made (4194304 < spots_end [] [] start segments.now)) }
+    ensures past { IfOk result (λ made. IfNone made (MOST_FILE_BYTES < spots_end [] [] start segments.now)) }
 {
     let mut had = Vec::new(alloc);
     let mut from = start;
@@ -41,7 +42,7 @@ pub fn place_segments(
 /// The place behind what has been written, after the segment at its spot.
 #[tactic(auto, unfolding(crate::specs::Writing::end_of))]
 fn end_of(spot: Spot, from: u32, segment: &Segment) -> u32
-    requires { end_of spot from segment.now ≤ 4194304 }
+    requires { end_of spot from segment.now ≤ MOST_FILE_BYTES }
     ensures { result ≡ end_of spot from segment.now }
 {
     if spot.fresh {
@@ -57,11 +58,11 @@ fn end_of(spot: Spot, from: u32, segment: &Segment) -> u32
 fn spot_for(earlier: &[Segment], had: &[Spot], from: u32, segment: &Segment) -> Option<Spot>
     requires same { length had.now ≡ length earlier.now }
     requires within { AreWithin earlier.now had.now }
-    requires few { from ≤ 4194304 }
+    requires few { from ≤ MOST_FILE_BYTES }
     ensures spot { IfSome result (λ spot. spot ≡ spot_of earlier.now had.now from segment.now) }
-    ensures within { IfSome result (λ spot. spot.at + length segment.now.bytes ≤ 4194304) }
-    ensures end { IfSome result (λ spot. end_of spot from segment.now ≤ 4194304) }
-    ensures past { IfNone result (4194304 < end_of (spot_of earlier.now had.now from segment.now) from segment.now) }
+    ensures within { IfSome result (λ spot. spot.at + length segment.now.bytes ≤ MOST_FILE_BYTES) }
+    ensures end { IfSome result (λ spot. end_of spot from segment.now ≤ MOST_FILE_BYTES) }
+    ensures past { IfNone result (MOST_FILE_BYTES < end_of (spot_of earlier.now had.now from segment.now) from segment.now) }
 {
     match home_of(segment, earlier, had) {
         Some(at) => Some(Spot { at, fresh: false }),
@@ -84,7 +85,7 @@ fn home_of(segment: &Segment, earlier: &[Segment], had: &[Spot]) -> Option<u32>
     requires same { length had.now ≡ length earlier.now }
     requires within { AreWithin earlier.now had.now }
     ensures value { result ≡ home_of segment.now earlier.now had.now }
-    ensures within { IfSome result (λ at. at + length segment.now.bytes ≤ 4194304) }
+    ensures within { IfSome result (λ at. at + length segment.now.bytes ≤ MOST_FILE_BYTES) }
 {
     for (k, other) in earlier.iter().enumerate() {
         if is_inside(segment, other) {
@@ -135,11 +136,11 @@ pub fn place_sections(
     sections: &[Section],
     from: u32,
 ) -> Result<Option<(Vec<u32>, u32)>, AllocError>
-    requires { from ≤ 4194304 }
+    requires { from ≤ MOST_FILE_BYTES }
     ensures offsets { IfOk result (λ made. IfSome made (λ m. m.0.items ≡ offsets from sections.now)) }
     ensures end { IfOk result (λ made. IfSome made (λ m. m.1 ≡ offsets_end from sections.now)) }
-    ensures few { IfOk result (λ made. IfSome made (λ m. m.1 ≤ 4194304)) }
-    ensures past { IfOk result (λ made. IfNone made (4194304 < offsets_end from sections.now)) }
+    ensures few { IfOk result (λ made. IfSome made (λ m. m.1 ≤ MOST_FILE_BYTES)) }
+    ensures past { IfOk result (λ made. IfNone made (MOST_FILE_BYTES < offsets_end from sections.now)) }
 {
     let mut made = Vec::new(alloc);
     let mut at = from;
@@ -157,7 +158,7 @@ pub fn place_sections(
 /// Where a section's bytes begin.
 #[tactic(auto, unfolding(crate::specs::Writing::offset_of, crate::specs::Writing::offset_end))]
 fn offset_of(from: u32, section: &Section) -> u32
-    requires { offset_end from section.now ≤ 4194304 }
+    requires { offset_end from section.now ≤ MOST_FILE_BYTES }
     ensures { result ≡ offset_of from section.now }
 {
     if has_bytes(section.kind) {

@@ -1,4 +1,5 @@
 ghost use Rattle.std.specs.Prelude.{◌≡◌, false, ◌+◌, ◌*◌, ◌<◌, ◌≤◌, length, map, sum_by, IfOk, OnOk};
+ghost use Rattle.c6x_base.specs.declared.limits.TheConstants.{MOST_FILE_BYTES, MOST_HELD_BYTES};
 ghost use Rattle.c6x_elf_headers.specs.Heads.{AreSectionHeadsNear, AreSegmentHeadsNear, file_head, is_big};
 ghost use Rattle.c6x_elf_headers.specs.Rules.{along_parts, Passes};
 ghost use Rattle.c6x_elf.specs.Form.{HasReadForm};
@@ -28,7 +29,7 @@ fn segments_along(
     ensures passes { Passes result (along_parts segment_size (segment_refusal bytes.now) 0 heads.now) }
     ensures value { IfOk result (λ made. made.0.items ≡ map (segment_of bytes.now) heads.now) }
     ensures total { IfOk result (λ made. made.1 ≡ sum_by segment_size heads.now) }
-    ensures few { IfOk result (λ made. made.1 ≤ 16777216) }
+    ensures few { IfOk result (λ made. made.1 ≤ MOST_HELD_BYTES) }
 {
     let mut segments = Vec::new(alloc);
     let mut total = 0;
@@ -49,7 +50,7 @@ fn sections_along(
     heads: &[SectionHead],
 ) -> Result<Vec<Section>, ElfError>
     requires near { AreSectionHeadsNear heads.now }
-    requires few { before ≤ 16777216 }
+    requires few { before ≤ MOST_HELD_BYTES }
     ensures passes { Passes result (along_parts section_size (section_refusal bytes.now count) before heads.now) }
     ensures value { IfOk result (λ sections. sections.items ≡ map (section_of bytes.now) heads.now) }
 {
@@ -70,11 +71,11 @@ fn read_segments(
     bytes: &[u8],
     head: &FileHead,
 ) -> Result<(Vec<Segment>, u32), ElfError>
-    requires short { length bytes.now ≤ 4194304 }
+    requires short { length bytes.now ≤ MOST_FILE_BYTES }
     ensures passes { Passes result (segments_refusal big bytes.now head.now) }
     ensures value { IfOk result (λ made. made.0.items ≡ map (segment_of bytes.now) (segment_heads_of big bytes.now head.now)) }
     ensures total { IfOk result (λ made. made.1 ≡ segments_total big bytes.now head.now) }
-    ensures few { IfOk result (λ made. made.1 ≤ 16777216) }
+    ensures few { IfOk result (λ made. made.1 ≤ MOST_HELD_BYTES) }
 {
     let count = head.segment_count;
     check(
@@ -96,8 +97,8 @@ fn read_sections(
     before: u32,
 ) -> Result<(Vec<SectionHead>, Vec<Section>), ElfError>
     requires total { before ≡ segments_total big bytes.now head.now }
-    requires few { before ≤ 16777216 }
-    requires short { length bytes.now ≤ 4194304 }
+    requires few { before ≤ MOST_HELD_BYTES }
+    requires short { length bytes.now ≤ MOST_FILE_BYTES }
     ensures passes { Passes result (sections_refusal big bytes.now head.now) }
     ensures heads { IfOk result (λ made. made.0.items ≡ section_heads_of big bytes.now head.now) }
     ensures value { IfOk result (λ made. made.1.items ≡ sections_of big bytes.now head.now) }
@@ -123,8 +124,8 @@ fn read_tables(
     before: u32,
 ) -> Result<Vec<Section>, ElfError>
     requires total { before ≡ segments_total big bytes.now head.now }
-    requires few { before ≤ 16777216 }
-    requires short { length bytes.now ≤ 4194304 }
+    requires few { before ≤ MOST_HELD_BYTES }
+    requires short { length bytes.now ≤ MOST_FILE_BYTES }
     ensures passes { Passes result (tables_refusal big bytes.now head.now) }
     ensures value { IfOk result (λ sections. sections.items ≡ sections_of big bytes.now head.now) }
 {
@@ -136,7 +137,7 @@ fn read_tables(
 /// The parts that a file header names.
 #[tactic(auto, unfolding(crate::specs::Reading::parts_refusal, crate::specs::Reading::file_with))]
 fn read_parts(alloc: Global, big: bool, bytes: &[u8], head: &FileHead) -> Result<File, ElfError>
-    requires { length bytes.now ≤ 4194304 }
+    requires { length bytes.now ≤ MOST_FILE_BYTES }
     ensures passes { Passes result (parts_refusal big bytes.now head.now) }
     ensures value { IfOk result (λ file. file ≡ file_with big bytes.now head.now) }
 {

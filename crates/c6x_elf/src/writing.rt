@@ -1,4 +1,5 @@
 ghost use Rattle.std.specs.Prelude.{◌≡◌, ◌+◌, ◌*◌, ◌≤◌, ◌<◌, ◌++◌, [], None, false, List, length, map, All, IsTrue, IfOk, IfErr, IfNone, IfSome, OnOk, ◌↔◌, ◌^◌, vec_len, ◌==◌, if◌then◌else◌};
+ghost use Rattle.c6x_base.specs.declared.limits.TheConstants.{MOST_FILE_BYTES, MOST_SECTIONS, MOST_SEGMENTS};
 ghost use Rattle.c6x_spec.specs.Rounded.{rounded};
 ghost use Rattle.c6x_elf_layout.specs.HeadRows.{FileFits, SectionsFit, SegmentsFit, file_row, section_rows, segment_rows};
 ghost use Rattle.c6x_elf_layout.specs.Laid.{InOrder, Part, laid};
@@ -29,7 +30,7 @@ fn put_segment_heads(
     spots: &[Spot],
 ) -> Result<(), AllocError>
     requires same { length spots.now ≡ length segments.now }
-    requires near { at + 32 * length segments.now ≤ 4194304 }
+    requires near { at + 32 * length segments.now ≤ MOST_FILE_BYTES }
     requires within { AreWithin segments.now spots.now }
     ensures rows { OnOk result (out.new.items ≡ out.old.items ++ segment_rows false (segment_heads_at at 0 segments.now spots.now)) }
     ensures end { OnOk result (vec_len out.new ≡ vec_len out.old + 32 * length segments.now) }
@@ -51,7 +52,7 @@ fn put_section_heads(
     offsets: &[u32],
 ) -> Result<(), AllocError>
     requires same { length offsets.now ≡ length sections.now }
-    requires near { at + 40 * length sections.now ≤ 4194304 }
+    requires near { at + 40 * length sections.now ≤ MOST_FILE_BYTES }
     ensures rows { OnOk result (out.new.items ≡ out.old.items ++ section_rows false (section_heads_at at 0 sections.now offsets.now)) }
     ensures end { OnOk result (vec_len out.new ≡ vec_len out.old + 40 * length sections.now) }
     ensures fit { OnOk result (SectionsFit (section_heads_at at 0 sections.now offsets.now)) }
@@ -66,7 +67,7 @@ fn put_section_heads(
 /// The program header of a segment at its spot.
 #[tactic(auto, unfolding(crate::specs::Writing::segment_head_at))]
 fn segment_head(at: u32, segment: &Segment, spot: Spot) -> SegmentHead
-    requires { length segment.now.bytes ≤ 4194304 }
+    requires { length segment.now.bytes ≤ MOST_FILE_BYTES }
     ensures { result ≡ segment_head_at at segment.now spot }
 {
     SegmentHead {
@@ -167,14 +168,14 @@ struct Layout {
 /// The places of a file's parts; None exactly where its written form is longer than a file may be.
 #[tactic(auto, unfolding(crate::specs::Writing::written_size, crate::specs::Writing::sections_at), using(crate::proofs::Spots::offsets_end_above, crate::proofs::Spots::rounded_above))]
 fn lay_out(alloc: Global, file: &File) -> Result<Option<Layout>, AllocError>
-    requires few { length file.now.segments ≤ 64 }
-    requires few_sections { length file.now.sections ≤ 4096 }
+    requires few { length file.now.segments ≤ MOST_SEGMENTS }
+    requires few_sections { length file.now.sections ≤ MOST_SECTIONS }
     ensures spots { IfOk result (λ made. IfSome made (λ layout. layout.spots.items ≡ spots_of file.now)) }
     ensures offsets { IfOk result (λ made. IfSome made (λ layout. layout.offsets.items ≡ offsets_of file.now)) }
     ensures table { IfOk result (λ made. IfSome made (λ layout. layout.sections_at ≡ sections_at file.now)) }
     ensures within { IfOk result (λ made. IfSome made (λ layout. AreWithin file.now.segments layout.spots.items)) }
-    ensures small { IfOk result (λ made. IfSome made (λ _. written_size file.now ≤ 4194304)) }
-    ensures past { IfOk result (λ made. IfNone made (4194304 < written_size file.now)) }
+    ensures small { IfOk result (λ made. IfSome made (λ _. written_size file.now ≤ MOST_FILE_BYTES)) }
+    ensures past { IfOk result (λ made. IfNone made (MOST_FILE_BYTES < written_size file.now)) }
 {
     let segments = file.segments.as_slice();
     let sections = file.sections.as_slice();
@@ -250,8 +251,8 @@ fn put_front(out: &mut Vec<u8>, file: &File, layout: &Layout) -> Result<(), Allo
 /// The file header.
 #[tactic(auto, unfolding(crate::specs::Writing::head_of))]
 fn file_head(file: &File, at: u32) -> FileHead
-    requires segments { length file.now.segments ≤ 64 }
-    requires sections { length file.now.sections ≤ 4096 }
+    requires segments { length file.now.segments ≤ MOST_SEGMENTS }
+    requires sections { length file.now.sections ≤ MOST_SECTIONS }
     requires table { at ≡ sections_at file.now }
     ensures { result ≡ head_of file.now }
 {
@@ -272,7 +273,7 @@ fn file_head(file: &File, at: u32) -> FileHead
 #[tactic(auto, unfolding(crate::specs::Writing::table_parts, crate::specs::Writing::written_size))]
 fn put_table(out: &mut Vec<u8>, file: &File, layout: &Layout) -> Result<(), AllocError>
     requires order { InOrder (vec_len out.old) (table_parts false file.now) }
-    requires small { written_size file.now ≤ 4194304 }
+    requires small { written_size file.now ≤ MOST_FILE_BYTES }
     requires offsets { layout.now.offsets.items ≡ offsets_of file.now }
     requires table { layout.now.sections_at ≡ sections_at file.now }
     ensures laid { OnOk result (out.new.items ≡ out.old.items ++ laid (vec_len out.old) (table_parts false file.now)) }

@@ -1,5 +1,6 @@
 use Rattle.std.proofs.Common.{◌≡◌, ℕ, ◌+◌, ◌*◌, Bool, List, [], ◌∷◌, ◌++◌, length, get_or, refl, ap, ◌∙◌, ◌<◌, ◌≤◌, zero-add, arith}
 use Rattle.std.proofs.lemmas.List.FromFn.{map-range_with_len_more, length-map-range_with_len, get_or-map-range_with_len}
+use Rattle.c6x_base.specs.declared.limits.TheConstants.{MOST_FILE_BYTES}
 use Rattle.c6x_elf_headers.specs.Heads.{AreSectionHeadsNear, AreSegmentHeadsNear, section_head, section_heads, segment_head, segment_heads}
 use Rattle.c6x_elf_headers.specs.declared.section_head.SectionHead.{SectionHead}
 use Rattle.c6x_elf_headers.specs.declared.segment_head.SegmentHead.{SegmentHead}
@@ -31,7 +32,7 @@ unfolding section_head
 section_head-at big bytes at = refl
 
 -- headers that lie in the file are near
-pub segment_heads_near : (heads : List SegmentHead) (big : Bool) (bytes : List ℕ) (at count : ℕ) → heads ≡ segment_heads big bytes at count → (0 < count → at + 32 * count ≤ length bytes) → length bytes ≤ 4194304 → AreSegmentHeadsNear heads
+pub segment_heads_near : (heads : List SegmentHead) (big : Bool) (bytes : List ℕ) (at count : ℕ) → heads ≡ segment_heads big bytes at count → (0 < count → at + 32 * count ≤ length bytes) → length bytes ≤ MOST_FILE_BYTES → AreSegmentHeadsNear heads
 unfolding segment_heads
 segment_heads_near heads big bytes at count is within few = record {
   each = λ k d below.
@@ -43,7 +44,7 @@ segment_heads_near heads big bytes at count is within few = record {
       omega arith;
 }
 
-pub section_heads_near : (heads : List SectionHead) (big : Bool) (bytes : List ℕ) (at count : ℕ) → heads ≡ section_heads big bytes at count → (0 < count → at + 40 * count ≤ length bytes) → length bytes ≤ 4194304 → AreSectionHeadsNear heads
+pub section_heads_near : (heads : List SectionHead) (big : Bool) (bytes : List ℕ) (at count : ℕ) → heads ≡ section_heads big bytes at count → (0 < count → at + 40 * count ≤ length bytes) → length bytes ≤ MOST_FILE_BYTES → AreSectionHeadsNear heads
 unfolding section_heads
 section_heads_near heads big bytes at count is within few = record {
   each = λ k d below.

@@ -1,5 +1,6 @@
 use Rattle.std.specs.Prelude.{ℕ, ◌+◌, ◌*◌, ◌<◌, ◌≤◌, ◌==◌, Bool, List, length, map, slice_index, slice_index_or}
 use Rattle.std.specs.List.{range_with_len}
+use Rattle.c6x_base.specs.declared.limits.TheConstants.{MOST_FILE_BYTES}
 use Rattle.c6x_spec.specs.Numbers.{half_at, word_at}
 use Rattle.c6x_elf_entries.specs.declared.abi.TheConstants.{ELFDATA2MSB}
 use Rattle.c6x_elf_headers.specs.declared.file_head.FileHead.{FileHead}
@@ -62,7 +63,7 @@ section_heads big bytes at count = map (λ k. section_head big bytes (at + 40 * 
 
 -- Each header lies within the first 4,194,304 bytes, the most that a file has.
 pub record AreSegmentHeadsNear (heads : List SegmentHead) : Type 0 where
-  pub each : (k : ℕ) (d : SegmentHead) → k < length heads → (slice_index_or heads k d).at + 32 ≤ 4194304
+  pub each : (k : ℕ) (d : SegmentHead) → k < length heads → (slice_index_or heads k d).at + 32 ≤ MOST_FILE_BYTES
 
 pub record AreSectionHeadsNear (heads : List SectionHead) : Type 0 where
-  pub each : (k : ℕ) (d : SectionHead) → k < length heads → (slice_index_or heads k d).at + 40 ≤ 4194304
+  pub each : (k : ℕ) (d : SectionHead) → k < length heads → (slice_index_or heads k d).at + 40 ≤ MOST_FILE_BYTES

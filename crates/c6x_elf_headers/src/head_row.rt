@@ -1,4 +1,5 @@
 ghost use Rattle.std.specs.Prelude.{◌≡◌, ◌+◌, ◌*◌, ◌<◌, ◌≤◌, length, IfOk};
+ghost use Rattle.c6x_base.specs.declared.limits.TheConstants.{MOST_FILE_BYTES};
 ghost use Rattle.c6x_elf_headers.specs.Heads.{AreSectionHeadsNear, AreSegmentHeadsNear, section_head, section_heads, segment_head, segment_heads};
 
 use crate::section_head::SectionHead;
@@ -16,7 +17,7 @@ pub fn read_segment_heads(
     count: u16,
 ) -> Result<Vec<SegmentHead>, AllocError>
     requires within { 0 < count → at + 32 * count ≤ length bytes.now }
-    requires few { length bytes.now ≤ 4194304 }
+    requires few { length bytes.now ≤ MOST_FILE_BYTES }
     ensures value { IfOk result (λ heads. heads.items ≡ segment_heads big bytes.now at count) }
     ensures near { IfOk result (λ heads. AreSegmentHeadsNear heads.items) }
 {
@@ -37,7 +38,7 @@ pub fn read_section_heads(
     count: u16,
 ) -> Result<Vec<SectionHead>, AllocError>
     requires within { 0 < count → at + 40 * count ≤ length bytes.now }
-    requires few { length bytes.now ≤ 4194304 }
+    requires few { length bytes.now ≤ MOST_FILE_BYTES }
     ensures value { IfOk result (λ heads. heads.items ≡ section_heads big bytes.now at count) }
     ensures near { IfOk result (λ heads. AreSectionHeadsNear heads.items) }
 {

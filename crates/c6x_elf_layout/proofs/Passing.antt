@@ -1,6 +1,7 @@
 use Rattle.std.proofs.Common.{◌≡◌, ℕ, ◌+◌, ◌≤◌, ◌==◌, ◌||◌, Bool, true, false, List, None, length, nat_le, cond, refl, ap, ◌∙◌, lit<, arith}
 use Rattle.std.proofs.lemmas.Bool.Decides.{nat_tests}
 use Rattle.std.specs.Prelude.{slice_index}
+use Rattle.c6x_base.specs.declared.limits.TheConstants.{MOST_FILE_BYTES, MOST_SECTIONS, MOST_SEGMENTS}
 use Rattle.c6x_spec.specs.Numbers.{half_at, word_at}
 use Rattle.c6x_elf_entries.specs.declared.abi.TheConstants.{ELFCLASS32, ELFDATA2LSB, EM_TI_C6000, EV_CURRENT}
 use Rattle.c6x_elf_headers.specs.Header.{HeadKeeps, counts_refusal, header_refusal, ident_refusal, is_file_type, is_magic, is_none_or_below, is_none_or_sized, numbers_refusal, sizes_refusal}
@@ -29,7 +30,7 @@ not_big : (bytes : List ℕ) (head : FileHead) → ReadsHead false bytes head �
 unfolding is_big
 not_big bytes head r = rw (r.marks 5 (lit< tt)) refl
 
-ident_passes : (bytes : List ℕ) (head : FileHead) → ReadsHead false bytes head → 52 ≤ length bytes → length bytes ≤ 4194304 → ident_refusal bytes ≡ None
+ident_passes : (bytes : List ℕ) (head : FileHead) → ReadsHead false bytes head → 52 ≤ length bytes → length bytes ≤ MOST_FILE_BYTES → ident_refusal bytes ≡ None
 unfolding ident_refusal is_magic
 ident_passes bytes head r long few =
     let b0 = r.marks 0 (lit< tt) in
@@ -40,7 +41,7 @@ ident_passes bytes head r long few =
     let b5 = r.marks 5 (lit< tt) in
     let b6 = r.marks 6 (lit< tt) in
     let magic : is_magic bytes ≡ true = rw (b0, b1, b2, b3) refl in
-    let m0 = must_is (nat_le (length bytes) 4194304) Large 0 (grind (arith, nat_tests)) in
+    let m0 = must_is (nat_le (length bytes) MOST_FILE_BYTES) Large 0 (grind (arith, nat_tests)) in
     let m1 = must_is (is_magic bytes) Magic 0 magic in
     let m2 = must_is (slice_index bytes 4 == ELFCLASS32) Class 4 (same_number _ _ b4) in
     let m3 = must_is (slice_index bytes 5 == ELFDATA2LSB) Data 5 (same_number _ _ b5) in
@@ -67,7 +68,7 @@ numbers_pass bytes head r long kind =
     let w36 = whole_is bytes 36 4 (omega arith) in
     rw (w16, m0, w18, m1, w20, m2, w24, w28, w32, w36) refl
 
-counts_pass : (bytes : List ℕ) (head : FileHead) → ReadsHead false bytes head → 52 ≤ length bytes → head.segment_count ≤ 64 → head.section_count ≤ 4096 → is_none_or_below head.names head.section_count ≡ true → counts_refusal false bytes ≡ None
+counts_pass : (bytes : List ℕ) (head : FileHead) → ReadsHead false bytes head → 52 ≤ length bytes → head.segment_count ≤ MOST_SEGMENTS → head.section_count ≤ MOST_SECTIONS → is_none_or_below head.names head.section_count ≡ true → counts_refusal false bytes ≡ None
 unfolding counts_refusal
 counts_pass bytes head r long segments sections names =
     let segment_count : half_at false bytes 44 ≡ head.segment_count = r.counts.1.1.0 in
@@ -107,7 +108,7 @@ sizes_pass bytes head r =
     rw (m0, m1) refl
 
 -- a written header breaks no rule
-pub header_passes : (bytes : List ℕ) (head : FileHead) → ReadsHead false bytes head → 52 ≤ length bytes → length bytes ≤ 4194304 → HeadKeeps head → header_refusal bytes ≡ None
+pub header_passes : (bytes : List ℕ) (head : FileHead) → ReadsHead false bytes head → 52 ≤ length bytes → length bytes ≤ MOST_FILE_BYTES → HeadKeeps head → header_refusal bytes ≡ None
 unfolding header_refusal
 header_passes bytes head r long few keeps =
     let big = not_big bytes head r in
