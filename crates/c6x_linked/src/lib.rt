@@ -2,7 +2,12 @@
 #![tactic(auto)]
 
 mod counts;
+pub mod limits;
+mod parts;
 mod places;
+mod shared;
 
 pub use counts::Counts;
-pub use places::{Places, TEXT_START, entry_count, places_of};
+pub use parts::Parts;
+pub use places::{Places, entry_count, places_of};
+pub use shared::Shared;

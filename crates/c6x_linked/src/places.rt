@@ -4,9 +4,6 @@ ghost use Rattle.c6x_linked.specs.Places.{entry_count, places_of};
 use crate::counts::Counts;
 use c6x_base::least_multiple;
 
-/// The address where the text of a linked module begins.
-pub const TEXT_START: u32 = 0x0001_0000;
-
 /// Where the tables of a linked module stand, in bytes from the start of its text.
 #[derive(Clone, Copy, Debug, PartialEq, Eq)]
 pub struct Places {

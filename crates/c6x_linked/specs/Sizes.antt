@@ -1,0 +1,14 @@
+-- What the limits of a link give.
+use Rattle.std.specs.Prelude.{ℕ, ◌≤◌, length}
+use Rattle.c6x_linked.specs.Places.{text_size}
+use Rattle.c6x_linked.specs.Tables.{counts_of}
+use Rattle.c6x_linked.specs.declared.limits.TheConstants.{MOST_ALIGN, MOST_SEGMENT_BYTES}
+use Rattle.c6x_linked.specs.declared.parts.Parts.{Parts}
+
+-- Text and data are within their limits, and the data has memory for its bytes.
+pub record AreSized (p : Parts) : Type 0 where
+  pub text : text_size (counts_of p) ≤ MOST_SEGMENT_BYTES
+  pub content : length p.content ≤ p.memory
+  pub memory : p.memory ≤ MOST_SEGMENT_BYTES
+  pub align : p.align ≤ MOST_ALIGN
+  pub data_align : p.data_align ≤ MOST_ALIGN
