@@ -1,0 +1,4 @@
+pub mod EntryWalks
+pub mod RangeWalks
+pub mod FieldWalks
+pub mod Marks

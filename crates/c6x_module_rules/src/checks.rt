@@ -1,0 +1,17 @@
+ghost use Rattle.std.specs.Prelude.{IsTrue, OnOk};
+ghost use Rattle.c6x_module_rules.specs.Refusals.{must, Passes};
+
+use c6x_module::{ModuleError, ModuleRule};
+
+/// The rule is broken, with this number, where the test fails.
+#[tactic(auto, unfolding(crate::specs::Refusals::must))]
+pub fn check(holds: bool, rule: ModuleRule, number: u32) -> Result<(), ModuleError>
+    ensures passes { Passes result (must holds rule number) }
+    ensures holds { OnOk result (IsTrue holds) }
+{
+    if holds {
+        Ok(())
+    } else {
+        Err(ModuleError::Rule { rule, number })
+    }
+}
