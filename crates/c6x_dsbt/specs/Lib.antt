@@ -1,0 +1,5 @@
+pub mod Firsts
+pub mod Growth
+pub mod Needs
+pub mod Plans
+pub mod Wanted
