@@ -1,0 +1,4 @@
+pub mod Members
+pub mod Needs
+pub mod Definitions
+pub mod Binding
