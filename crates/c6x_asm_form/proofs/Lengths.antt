@@ -5,8 +5,8 @@ use Rattle.std.specs.Prelude.{count_by, filter}
 use Rattle.std.proofs.lemmas.List.{length-map, length-take-le}
 use Rattle.std.proofs.lemmas.List.Filters.{length-filter_both}
 use Rattle.std.proofs.lemmas.List.Sums.{count_by-le-length, count_by_more_yes, length-filter, sum_by-cons, sum_by-take-le}
-use Rattle.c6x_elf_entries.specs.EntryRows.{symbol_rows}
-use Rattle.c6x_elf_entries.proofs.EntryRows.{length-rela_rows, length-symbol_rows}
+use Rattle.c6x_elf.specs.EntryRows.{symbol_rows}
+use Rattle.c6x_elf.proofs.EntryRows.{length-rela_rows, length-symbol_rows}
 use Rattle.c6x_asm_object.specs.declared.reloc_entry.RelocEntry.{RelocEntry}
 use Rattle.c6x_asm_object.specs.declared.asm_section.AsmSection.{AsmSection}
 use Rattle.c6x_asm_object.specs.declared.symbol.Symbol.{Symbol}

@@ -1,7 +1,7 @@
 use Rattle.std.proofs.Common.{◌≡◌, ℕ, zero, suc, ◌+◌, Bool, true, false, cond, List, [], ◌∷◌, ◌++◌, Option, None, subst, arith}
 use Rattle.std.specs.Prelude.{All, filter}
 use Rattle.std.specs.List.{range_with_len}
-use Rattle.c6x_elf_headers.specs.Rules.{Refusal, first_along}
+use Rattle.c6x_elf.specs.Rules.{Refusal, first_along}
 use Rattle.c6x_elf.proofs.Moves.{both_none}
 use Rattle.c6x_elf.proofs.Placed.{none_first, none_later}
 

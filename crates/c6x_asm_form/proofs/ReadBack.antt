@@ -1,9 +1,9 @@
 -- One number read back from the bytes that spell it.
 use Rattle.std.proofs.Common.{◌≡◌, ℕ, ◌+◌, ◌^◌, ◌<◌, false, List, [], ◌∷◌, sym, ap, ◌∙◌, subst, add-zero, append-nil}
 use Rattle.c6x_spec.specs.Numbers.{word_at}
-use Rattle.c6x_elf_entries.specs.Held.{Holds}
-use Rattle.c6x_elf_entries.specs.Rows.{word_bytes, word_row}
-use Rattle.c6x_elf_entries.proofs.NumberRows.{words_held}
+use Rattle.c6x_elf.specs.Held.{Holds}
+use Rattle.c6x_elf.specs.Rows.{word_bytes, word_row}
+use Rattle.c6x_elf.proofs.NumberRows.{words_held}
 
 pub word_read : (bytes : List ℕ) (at n : ℕ) → n < 2 ^ 32 → Holds bytes at (word_bytes false n) → word_at false bytes at ≡ n
 word_read bytes at n fits h =

@@ -7,16 +7,16 @@ use Rattle.std.proofs.lemmas.Bool.Decides.{nat_tests}
 use Rattle.std.proofs.lemmas.List.FromFn.{get_or-map-range_with_len, length-map-range_with_len}
 use Rattle.std.proofs.lemmas.List.{get_or_past}
 use Rattle.c6x_spec.specs.Numbers.{word_at}
-use Rattle.c6x_elf_headers.specs.Rules.{first_along}
-use Rattle.c6x_elf_headers.specs.declared.elf_rule.ElfRule.TheVariants.{Index}
-use Rattle.c6x_elf_headers.specs.declared.section_head.SectionHead.{SectionHead}
-use Rattle.c6x_elf_entries.specs.Attributes.{rela_info}
-use Rattle.c6x_elf_entries.specs.EntryRows.{rela_row}
-use Rattle.c6x_elf_entries.specs.Held.{Holds}
-use Rattle.c6x_elf_entries.specs.Rows.{word_bytes, word_row}
-use Rattle.c6x_elf_entries.proofs.EntryRows.{length-rela_row}
-use Rattle.c6x_elf_entries.proofs.Holdings.{holds_all, holds_left, holds_right}
-use Rattle.c6x_elf_layout.proofs.Passing.{must_is}
+use Rattle.c6x_elf.specs.Rules.{first_along}
+use Rattle.c6x_elf.specs.ElfRules.{Index}
+use Rattle.c6x_elf.specs.Types.{SectionHead}
+use Rattle.c6x_elf.specs.Attributes.{rela_info}
+use Rattle.c6x_elf.specs.EntryRows.{rela_row}
+use Rattle.c6x_elf.specs.Held.{Holds}
+use Rattle.c6x_elf.specs.Rows.{word_bytes, word_row}
+use Rattle.c6x_elf.proofs.EntryRows.{length-rela_row}
+use Rattle.c6x_elf.proofs.Holdings.{holds_all, holds_left, holds_right}
+use Rattle.c6x_elf.proofs.Passing.{must_is}
 use Rattle.c6x_elf.specs.Entries.{rela_refusal, relas_refusal, symbols_in}
 use Rattle.c6x_elf.specs.declared.section.Section.{Section}
 use Rattle.c6x_elf.proofs.Moves.{both_none}

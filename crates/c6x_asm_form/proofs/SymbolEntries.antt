@@ -6,18 +6,17 @@ use Rattle.std.specs.Prelude.{filter}
 use Rattle.std.specs.List.{flat_map, range_with_len}
 use Rattle.std.proofs.lemmas.Grind.{flat_map-append}
 use Rattle.c6x_spec.specs.Numbers.{half_at, word_at}
-use Rattle.c6x_elf_headers.specs.Rules.{first_along, must}
-use Rattle.c6x_elf_headers.specs.declared.elf_rule.ElfRule.TheVariants.{Index}
-use Rattle.c6x_elf_headers.specs.declared.section_head.SectionHead.{SectionHead}
-use Rattle.c6x_elf_entries.specs.EntryRows.{symbol_row, symbol_rows}
-use Rattle.c6x_elf_entries.specs.Held.{Holds}
-use Rattle.c6x_elf_entries.specs.Names.{name_row, name_table}
-use Rattle.c6x_elf_entries.specs.Rows.{half_row, word_bytes, word_row}
-use Rattle.c6x_elf_entries.specs.declared.symbol_entry.Symbol.{Symbol as Entry}
-use Rattle.c6x_elf_entries.proofs.EntryRows.{length-symbol_row}
-use Rattle.c6x_elf_entries.proofs.NumberRows.{halves_held}
-use Rattle.c6x_elf_entries.proofs.Holdings.{holds_left, holds_right, holds_all}
-use Rattle.c6x_elf_layout.proofs.Passing.{must_is}
+use Rattle.c6x_elf.specs.Rules.{first_along, must}
+use Rattle.c6x_elf.specs.ElfRules.{Index}
+use Rattle.c6x_elf.specs.Types.{SectionHead, Symbol as Entry}
+use Rattle.c6x_elf.specs.EntryRows.{symbol_row, symbol_rows}
+use Rattle.c6x_elf.specs.Held.{Holds}
+use Rattle.c6x_elf.specs.Names.{name_row, name_table}
+use Rattle.c6x_elf.specs.Rows.{half_row, word_bytes, word_row}
+use Rattle.c6x_elf.proofs.EntryRows.{length-symbol_row}
+use Rattle.c6x_elf.proofs.NumberRows.{halves_held}
+use Rattle.c6x_elf.proofs.Holdings.{holds_left, holds_right, holds_all}
+use Rattle.c6x_elf.proofs.Passing.{must_is}
 use Rattle.c6x_elf.specs.Entries.{is_section_number, name_refusal, symbol_refusal, symbols_refusal, text_of}
 use Rattle.c6x_elf.specs.declared.section.Section.{Section}
 use Rattle.c6x_elf.proofs.Moves.{both_none}

@@ -1,7 +1,7 @@
 -- The sections of an object one by one: sizes, fields and entries.
 use Rattle.std.proofs.Common.{◌≡◌, ℕ, ◌+◌, ◌*◌, ◌%◌, ◌^◌, ◌<◌, ◌≤◌, ◌==◌, true, false, cond, List, [], None, length, nat_lt, refl, sym, ap, ◌∙◌, subst, arith}
 use Rattle.std.proofs.lemmas.Bool.Decides.{nat_tests}
-use Rattle.c6x_elf_headers.specs.Rules.{must}
+use Rattle.c6x_elf.specs.Rules.{must}
 use Rattle.c6x_elf.specs.Entries.{entries_refusal, rela_refusal, relas_refusal, symbol_refusal, symbols_in, symbols_refusal, text_of}
 use Rattle.c6x_elf.specs.Form.{IsSized, own_head}
 use Rattle.c6x_elf.specs.Parts.{fields_refusal, has_bytes, has_entries, has_target, is_linked, is_relocation_table, is_symbol_table, section_size}

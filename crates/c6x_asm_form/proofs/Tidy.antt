@@ -3,10 +3,10 @@ use Rattle.std.proofs.Common.{◌≡◌, ℕ, suc, ◌+◌, ◌%◌, ◌<◌, �
 use Rattle.std.specs.Prelude.{IsTrue}
 use Rattle.std.specs.List.{list_any}
 use Rattle.std.proofs.lemmas.Bool.Decides.{nat_tests}
-use Rattle.c6x_elf_headers.specs.Header.{is_file_type, is_none_or_below}
-use Rattle.c6x_elf_headers.specs.Rules.{along_both, first_along}
-use Rattle.c6x_elf_entries.specs.Held.{Holds}
-use Rattle.c6x_elf_entries.proofs.Holdings.{holds_all, holds_right}
+use Rattle.c6x_elf.specs.Header.{is_file_type, is_none_or_below}
+use Rattle.c6x_elf.specs.Rules.{along_both, first_along}
+use Rattle.c6x_elf.specs.Held.{Holds}
+use Rattle.c6x_elf.proofs.Holdings.{holds_all, holds_right}
 use Rattle.c6x_elf.specs.Entries.{entries_refusal, named_refusal, own_name_refusal, text_of}
 use Rattle.c6x_elf.specs.Form.{IsSized, IsTidy, own_head, section_length}
 use Rattle.c6x_elf.specs.Parts.{fields_refusal}

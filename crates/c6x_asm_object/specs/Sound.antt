@@ -1,6 +1,6 @@
 -- What is true of the sections and symbols that lines of a text make.
 use Rattle.std.specs.Prelude.{◌≡◌, ℕ, ◌<◌, ◌≤◌, ◌⊎◌, true, false, All, IfSome, List, [], length}
-use Rattle.c6x_elf_entries.specs.declared.abi.TheConstants.{SHN_LORESERVE}
+use Rattle.c6x_elf.specs.Abi.{SHN_LORESERVE}
 use Rattle.c6x_asm_object.specs.declared.reloc_entry.RelocEntry.{RelocEntry}
 use Rattle.c6x_asm_object.specs.declared.asm_section.AsmSection.{AsmSection}
 use Rattle.c6x_asm_object.specs.declared.definition.Definition.{Definition}

@@ -7,6 +7,7 @@ use Rattle.std.proofs.lemmas.List.Elements.{All-push, All-set}
 use Rattle.std.proofs.lemmas.List.Quantifiers.{position-Some}
 use Rattle.std.proofs.lemmas.Option.{IfSome_then}
 use Rattle.std.proofs.lemmas.Result.{IfOk-at_ok, IfOk-weaker}
+use Rattle.c6x_elf.specs.Abi.{SHN_ABS}
 use Rattle.c6x_asm_lines.specs.declared.word.Word.{Word}
 use Rattle.c6x_asm_operands.specs.declared.relocatable.Field.{Field}
 use Rattle.c6x_asm_lines.specs.declared.rule.AsmRule.{AsmRule}
@@ -171,4 +172,4 @@ applied_sound text s (Common word size align near) sound suits =
     given_sound text s word (record { section = common_section near; value = align; size = size }) (placed_fault text s.symbols word)
     (common_spot (length s.sections) align size near) sound
 applied_sound text s (Set word value) sound suits =
-    given_sound text s word (record { section = 0xFFF1; value = value; size = 0 }) (placed_fault text s.symbols word) (inr (omega arith, omega arith)) sound
+    given_sound text s word (record { section = SHN_ABS; value = value; size = 0 }) (placed_fault text s.symbols word) (inr (omega arith, omega arith)) sound

@@ -2,6 +2,7 @@
 use Rattle.std.proofs.Common.{◌≡◌, ℕ, suc, zero, Bool, inl, inr, List, [], ◌∷◌, Option, Some, None, Result, Ok, Err, IfOk, refl, ◌∙◌, ap}
 use Rattle.std.specs.Prelude.{◌⊎◌, slice_set}
 use Rattle.std.proofs.lemmas.Result.{IfOk-at_ok, IfOk-weaker}
+use Rattle.c6x_elf.specs.Abi.{SHN_ABS}
 use Rattle.c6x_asm_lines.specs.declared.statement_head.StatementHead.{StatementHead}
 use Rattle.c6x_asm_lines.specs.declared.line.Line.{Line}
 use Rattle.c6x_asm_lines.specs.declared.line.Statement.{Statement}
@@ -112,7 +113,7 @@ applied_touches text s (SetAttribute attribute word) = inl refl
 applied_touches text s (Common word size align near) =
     given_touches text s word (record { section = common_section near; value = align; size = size }) (placed_fault text s.symbols word)
 applied_touches text s (Set word value) =
-    given_touches text s word (record { section = 0xFFF1; value = value; size = 0 }) (placed_fault text s.symbols word)
+    given_touches text s word (record { section = SHN_ABS; value = value; size = 0 }) (placed_fault text s.symbols word)
 
 keyword_touches : (text : List ℕ) (keyword : Option Keyword) (operands : List Operand) (s : State) → IfOk (with_keyword text keyword operands s) (Touch s)
 keyword_touches text None operands s = tt

@@ -1,6 +1,6 @@
 -- What a directive adds.
 use Rattle.std.specs.Prelude.{ℕ, ◌+◌, nat_le, Bool, if◌then◌else◌, List, [], ◌∷◌, Option, Some, None, Result, Ok, Err}
-use Rattle.c6x_elf_entries.specs.declared.abi.TheConstants.{SHN_ABS, SHN_COMMON, SHN_TIC6X_SCOMMON}
+use Rattle.c6x_elf.specs.Abi.{SHN_ABS, SHN_COMMON, SHN_TIC6X_SCOMMON}
 use Rattle.c6x_asm_operands.specs.declared.relocatable.Field.{Field}
 use Rattle.c6x_asm_lines.specs.declared.rule.AsmRule.{AsmRule}
 use Rattle.c6x_asm_lines.specs.declared.rule.AsmRule.TheVariants.{NoSection, Large}

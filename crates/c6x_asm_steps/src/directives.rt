@@ -11,7 +11,7 @@ use c6x_asm_directives::Directive;
 use c6x_asm_lines::{AsmRule, Word};
 use c6x_asm_object::{Definition, Object, add_align, add_number, add_zeros, padding};
 use c6x_asm_operands::Field;
-use c6x_elf_entries::abi::{SHN_ABS, SHN_COMMON, SHN_TIC6X_SCOMMON};
+use c6x_elf::abi::{SHN_ABS, SHN_COMMON, SHN_TIC6X_SCOMMON};
 use std::alloc::{AllocError, Global};
 
 /// Whether a section of this size may grow by so many bytes.

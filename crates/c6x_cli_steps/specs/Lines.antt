@@ -1,6 +1,6 @@
 use Rattle.std.specs.Prelude.{ℕ, List, ◌++◌, codes, decimal, length, nat_le, Option, None, Some, Result, Ok, Err, if◌then◌else◌}
 use Rattle.c6x_elf.specs.Types.{ElfRule}
-use Rattle.c6x_elf_headers.specs.declared.elf_rule.ElfRule.TheVariants.{Short, Magic, Class, Data, Version, Machine, FileType, EntrySize, Index, NoNul, Large}
+use Rattle.c6x_elf.specs.ElfRules.{Short, Magic, Class, Data, Version, Machine, FileType, EntrySize, Index, NoNul, Large}
 use Rattle.c6x_cli_steps.specs.declared.cause.Refusal.{Refusal}
 use Rattle.c6x_cli_steps.specs.declared.cause.Cause.{Cause}
 use Rattle.c6x_cli_steps.specs.declared.cause.Cause.TheVariants.{Usage, Missing, Refused}
