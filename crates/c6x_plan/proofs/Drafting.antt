@@ -6,7 +6,7 @@ use Rattle.c6x_plan.specs.declared.plan_error.PlanError.{PlanError}
 use Rattle.c6x_plan.specs.declared.plan_error.PlanError.TheVariants.{Syntax, Name, Count, NoMemory}
 use Rattle.c6x_plan.specs.declared.plan_rule.PlanRule.{PlanRule}
 use Rattle.c6x_plan.specs.Lines.{Said}
-use Rattle.c6x_plan.specs.Rules.{Drafts, Reads, ReadsBy, drafted, drafted_by, first_given, line_drafted, meanings, or_later, rule_of, ruled}
+use Rattle.c6x_plan.specs.Rules.{once, Drafts, Reads, ReadsBy, drafted, drafted_by, first_given, line_drafted, meanings, or_later, rule_of, ruled}
 
 -- a line that was taken leads to what the others come to
 pub line_taken : {D L : Type 0} (form : List (List ℕ) → Option L) (rule : D → L → Option PlanRule) (with : D → L → D) (draft more : D) (line : Said) (lines : List Said) → line_drafted form rule with draft line ≡ Ok more → drafted form rule with draft (line ∷ lines) ≡ drafted form rule with more lines
@@ -72,3 +72,8 @@ pub listed_more : {L X : Type 0} (given : L → Option X) (lines : List L) (line
 listed_more given [] line value some = rw some refl
 listed_more given (first ∷ lines) line value some =
     ap (cons_option (given first)) (listed_more given lines line value some) ∙ cons_behind (given first) (filter_map given lines) value
+
+-- what may be said once, and breaks no rule, was not said
+pub not_said : {X : Type 0} (slot : Option X) → once slot ≡ None → slot ≡ None
+not_said None none = refl
+not_said (Some value) none = absurd (cc)

@@ -1,5 +1,5 @@
 use Rattle.std.proofs.Common.{◌≡◌, ℕ, Bool, true, false, List, ◌++◌, ◌∷◌, [], refl, sym, ◌∙◌, ap}
-use Rattle.std.specs.Prelude.{Option, None, Some, Result, Ok, Err, codes, is_some, if◌then◌else◌}
+use Rattle.std.specs.Prelude.{Option, None, Some, Result, Ok, Err, codes}
 use Rattle.std.specs.List.{list_any}
 use Rattle.std.specs.Str.{bytes_eq}
 use Rattle.c6x_spec.specs.Results.{◌>>=◌}
@@ -10,21 +10,15 @@ use Rattle.c6x_plan.specs.declared.link_plan.LinkPlan.{LinkPlan}
 use Rattle.c6x_plan.specs.declared.limits.TheConstants.{MOST_NEEDED}
 use Rattle.c6x_plan.specs.declared.plan_error.PlanError.{PlanError}
 use Rattle.c6x_plan.specs.declared.plan_error.PlanError.TheVariants.{Syntax, Name, Count, NoMemory}
-use Rattle.c6x_plan.specs.declared.plan_rule.PlanRule.TheVariants.{Syntax as SyntaxRule}
 use Rattle.c6x_plan.specs.Lines.{Said, said_lines}
 use Rattle.c6x_plan.specs.LinkDrafts.{draft_rule, draft_with, finished, link_draft_of}
 use Rattle.c6x_plan.specs.LinkPlans.{again, entry_in, index_in, link_line, link_plan, link_plan_of, link_rule, needed_in, object_in, output_in, soname_in, table_in, with_object}
 use Rattle.c6x_plan.specs.Rules.{AddsWithin, Drafts, Reads, ReadsBy, behind_first, drafted, drafted_by, first_given, meanings, ruled}
 use Rattle.c6x_plan.specs.TextLines.{lines_left}
-use Rattle.c6x_plan.proofs.Drafting.{drafted_meant, given_first, given_kept, listed_kept, listed_more, stops}
+use Rattle.c6x_plan.proofs.Drafting.{drafted_meant, given_first, given_kept, listed_kept, listed_more, not_said, stops}
 
 abbrev draft : Option Bool → Option ℕ → Option ℕ → Option (List ℕ) → Option (List ℕ) → List (List ℕ) → List (List ℕ) → LinkDraft
 draft output index table entry soname needed objects = record { output = output; index = index; table = table; entry = entry; soname = soname; needed = needed; objects = objects }
-
--- what may be said once was not said
-not_said : {X : Type 0} (slot : Option X) → (if is_some slot then Some SyntaxRule else None) ≡ None → slot ≡ None
-not_said None none = refl
-not_said (Some value) none = absurd (cc)
 
 -- a needed name that was said
 pub needed_again : (draft : LinkDraft) (name : List ℕ) (line : ℕ) → list_any (λ other. bytes_eq other name) draft.needed ≡ true → drafted_by draft_with draft (ruled line (Some (Needed name)) (draft_rule draft (Needed name))) ≡ Err (Name line)

@@ -6,6 +6,7 @@ pub mod LinkPlans
 pub mod LinkDrafts
 pub mod RunLines
 pub mod RunPlans
+pub mod RunDrafts
 pub mod Plain
 pub mod Answer
 pub mod Parts

@@ -1,5 +1,5 @@
 -- What the lines of a link plan have said so far, as the reader keeps it.
-use Rattle.std.specs.Prelude.{false, is_some, unwrap_or, ◌++◌, if◌then◌else◌, List, [], ◌∷◌, Option, None, Some, Result}
+use Rattle.std.specs.Prelude.{false, unwrap_or, ◌++◌, if◌then◌else◌, List, [], ◌∷◌, Option, Some, Result}
 use Rattle.std.specs.List.{filter_map, list_any}
 use Rattle.std.specs.Str.{bytes_eq}
 use Rattle.c6x_plan.specs.declared.limits.TheConstants.{MOST_NEEDED, MOST_OBJECTS, TABLE}
@@ -9,9 +9,9 @@ use Rattle.c6x_plan.specs.declared.link_line.LinkLine.{LinkLine}
 use Rattle.c6x_plan.specs.declared.link_line.LinkLine.TheVariants.{Output, Index, Table, Entry, Soname, Needed, Object}
 use Rattle.c6x_plan.specs.declared.plan_error.PlanError.{PlanError}
 use Rattle.c6x_plan.specs.declared.plan_rule.PlanRule.{PlanRule}
-use Rattle.c6x_plan.specs.declared.plan_rule.PlanRule.TheVariants.{Syntax, Name}
+use Rattle.c6x_plan.specs.declared.plan_rule.PlanRule.TheVariants.{Name}
 use Rattle.c6x_plan.specs.LinkPlans.{entry_in, index_in, needed_in, object_in, output_in, passes, soname_in, table_in, with_object}
-use Rattle.c6x_plan.specs.Rules.{first_given}
+use Rattle.c6x_plan.specs.Rules.{first_given, once}
 
 -- What lines have said that mean these.
 abbrev pub link_draft_of : List LinkLine → LinkDraft
@@ -24,9 +24,6 @@ link_draft_of lines = record {
   needed = filter_map needed_in lines;
   objects = filter_map object_in lines;
 }
-
-abbrev pub once : {X : Type 0} → Option X → Option PlanRule
-once slot = if is_some slot then Some Syntax else None
 
 -- The rule that a line breaks behind what was said.
 unfoldable pub draft_rule : LinkDraft → LinkLine → Option PlanRule

@@ -1,5 +1,5 @@
 -- Link plans: what each line means, and the plan of all.
-use Rattle.std.specs.Prelude.{ℕ, Bool, true, false, ◌==◌, nat_le, unwrap_or, is_some, if◌then◌else◌, codes, List, [], ◌∷◌, length, Option, None, Some, Result, Ok, Err}
+use Rattle.std.specs.Prelude.{ℕ, Bool, true, false, ◌==◌, nat_le, unwrap_or, if◌then◌else◌, codes, List, [], ◌∷◌, length, Option, None, Some, Result, Ok, Err}
 use Rattle.std.specs.List.{filter_map, list_any}
 use Rattle.std.specs.Option.{option_map}
 use Rattle.std.specs.Str.{bytes_eq}
@@ -11,9 +11,9 @@ use Rattle.c6x_plan.specs.declared.link_plan.LinkPlan.{LinkPlan}
 use Rattle.c6x_plan.specs.declared.plan_error.PlanError.{PlanError}
 use Rattle.c6x_plan.specs.declared.plan_error.PlanError.TheVariants.{Count as CountAt}
 use Rattle.c6x_plan.specs.declared.plan_rule.PlanRule.{PlanRule}
-use Rattle.c6x_plan.specs.declared.plan_rule.PlanRule.TheVariants.{Syntax, Name, Count}
+use Rattle.c6x_plan.specs.declared.plan_rule.PlanRule.TheVariants.{Name, Count}
 use Rattle.c6x_plan.specs.Lines.{said_lines}
-use Rattle.c6x_plan.specs.Rules.{behind_first, meanings, first_given}
+use Rattle.c6x_plan.specs.Rules.{behind_first, first_given, meanings, once}
 use Rattle.c6x_plan.specs.Words.{is_name, number_in}
 
 abbrev pub any_number : List ℕ → Option ℕ
@@ -74,7 +74,7 @@ object_in _ = None
 
 -- A line that may come once has an earlier one of its kind.
 abbrev pub again : {X : Type 0} → (LinkLine → Option X) → List LinkLine → Option PlanRule
-again given earlier = if is_some (first_given given earlier) then Some Syntax else None
+again given earlier = once (first_given given earlier)
 
 abbrev pub passes : ℕ → List (List ℕ) → Option PlanRule
 passes most names = if nat_le most (length names) then Some Count else None

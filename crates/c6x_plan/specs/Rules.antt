@@ -50,6 +50,10 @@ abbrev pub first_given : {L X : Type 0} → (L → Option X) → List L → Opti
 first_given given [] = None
 first_given given (line ∷ lines) = or_later (given line) (first_given given lines)
 
+-- What may be said once breaks a rule where it was said.
+abbrev pub once : {X : Type 0} → Option X → Option PlanRule
+once slot = if is_some slot then Some Syntax else None
+
 -- An answer, seen by `view`, is what the text says, or its first broken rule. Want of memory is free.
 abbrev pub ReadsBy : {A B : Type 0} → (A → B) → Result A PlanError → Result B PlanError → Type 0
 ReadsBy view (Ok plan) told = told ≡ Ok (view plan)
