@@ -1,12 +1,11 @@
 -- How each list is walked: what is left of it, one member further.
-use Rattle.std.proofs.Common.{◌≡◌, ℕ, ◌+◌, ◌<◌, ◌&&◌, List, [], ◌∷◌, ◌++◌, length, drop, get_or, ap, max}
+use Rattle.std.proofs.Common.{◌≡◌, ℕ, ◌+◌, ◌<◌, List, [], ◌∷◌, ◌++◌, length, drop, get_or, ap, max}
 use Rattle.std.specs.Prelude.{Option, Some, if◌then◌else◌}
 use Rattle.std.specs.Str.{bytes_eq}
 use Rattle.std.proofs.lemmas.List.{drop_more}
 use Rattle.c6x_spec.specs.Firsts.{◌<|>◌, first_along}
-use Rattle.c6x_module.specs.Lookups.{export_from, is_export, symbols_of}
+use Rattle.c6x_module.specs.Lookups.{export_from, symbols_of}
 use Rattle.c6x_module.specs.declared.module.Module.{Module}
-use Rattle.c6x_module.specs.declared.symbol.DynSymbol.{DynSymbol}
 use Rattle.c6x_bind.specs.Members.{fields_of, greatest_index, index_of, all_fields}
 use Rattle.c6x_bind.specs.Needs.{named_from, numbers_of, with_number}
 use Rattle.c6x_bind.specs.Definitions.{found_or, first_export, member_targets, targets_from}
@@ -14,9 +13,6 @@ use Rattle.c6x_bind.specs.Binding.{duplicates, index_refusal, found_refusal, unr
 
 pub along_more : {A R : Type 0} (test : A → Option R) (xs : List A) (i : ℕ) (d : A) → i < length xs → first_along test (drop i xs) ≡ (test (get_or xs i d) <|> first_along test (drop (i + 1) xs))
 along_more test xs i d below = ap (first_along test) (drop_more xs i d below)
-
-pub export_more : (name : List ℕ) (n : ℕ) (ys : List DynSymbol) (i : ℕ) (d : DynSymbol) → i < length ys → export_from name n (drop i ys) ≡ (if is_export (get_or ys i d) && bytes_eq (get_or ys i d).name name then Some n else export_from name (n + 1) (drop (i + 1) ys))
-export_more name n ys i d below = ap (export_from name n) (drop_more ys i d below)
 
 pub named_more : (name : List ℕ) (n : ℕ) (ms : List Module) (i : ℕ) (d : Module) → i < length ms → named_from name n (drop i ms) ≡ (if bytes_eq (get_or ms i d).name name then Some n else named_from name (n + 1) (drop (i + 1) ms))
 named_more name n ms i d below = ap (named_from name n) (drop_more ms i d below)

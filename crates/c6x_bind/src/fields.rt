@@ -10,13 +10,13 @@ use crate::bind_rule::BindRule;
 use crate::found::Found;
 use crate::lookups::{fields_of, find_export, symbols_of};
 use crate::rules::check;
-use c6x_module::{DynSymbol, Field, Module};
+use c6x_module::{DynSymbol, Field};
+use c6x_modules::Modules;
 use std::alloc::Global;
 
 /// The first module of the search list that has an export of this name.
 #[tactic(auto, using(crate::proofs::Walks::first_more))]
-fn first_export(modules: &[Module], name: &[u8], list: &[u32]) -> Found
-    requires few { (number : ℕ) → length (symbols_of modules.now number) < 2 ^ 32 }
+fn first_export(modules: &Modules, name: &[u8], list: &[u32]) -> Found
     requires short { length list.now < 2 ^ 16 }
     ensures { result ≡ first_export modules.now name.now 0 list.now }
 {
@@ -45,13 +45,12 @@ fn or_weak(weak: bool, found: Found) -> Found
 /// The definition of a field of the module at a position.
 #[tactic(auto, unfolding(crate::specs::Definitions::field_found))]
 pub fn field_found(
-    modules: &[Module],
+    modules: &Modules,
     list: &[u32],
     position: u32,
     symbols: &[DynSymbol],
     field: &Field,
 ) -> Found
-    requires few { (number : ℕ) → length (symbols_of modules.now number) < 2 ^ 32 }
     requires short { length list.now < 2 ^ 16 }
     ensures { result ≡ field_found modules.now list.now position symbols.now field.now }
 {
@@ -90,11 +89,10 @@ pub fn name_or(symbols: &[DynSymbol], symbol: u32) -> &[u8]
 #[tactic(auto, using(crate::proofs::Walks::unresolved_more))]
 pub fn check_resolved(
     alloc: Global,
-    modules: &[Module],
+    modules: &Modules,
     list: &[u32],
     process: u32,
 ) -> Result<(), BindError>
-    requires few { (number : ℕ) → length (symbols_of modules.now number) < 2 ^ 32 }
     requires short { length list.now < 2 ^ 16 }
     ensures { Passes result (unresolved_from modules.now list.now process 0 list.now) }
 {
@@ -108,13 +106,12 @@ pub fn check_resolved(
 #[tactic(auto, using(crate::proofs::Walks::along_more))]
 fn check_fields(
     alloc: Global,
-    modules: &[Module],
+    modules: &Modules,
     list: &[u32],
     process: u32,
     position: u32,
     number: u32,
 ) -> Result<(), BindError>
-    requires few { (number : ℕ) → length (symbols_of modules.now number) < 2 ^ 32 }
     requires short { length list.now < 2 ^ 16 }
     ensures { Passes result (first_along (found_refusal modules.now list.now process position number (symbols_of modules.now number)) (fields_of modules.now number)) }
 {
@@ -131,7 +128,7 @@ fn check_fields(
 #[tactic(auto, unfolding(crate::specs::Binding::found_refusal))]
 fn check_field(
     alloc: Global,
-    modules: &[Module],
+    modules: &Modules,
     list: &[u32],
     process: u32,
     position: u32,
@@ -139,7 +136,6 @@ fn check_field(
     symbols: &[DynSymbol],
     field: &Field,
 ) -> Result<(), BindError>
-    requires few { (number : ℕ) → length (symbols_of modules.now number) < 2 ^ 32 }
     requires short { length list.now < 2 ^ 16 }
     ensures { Passes result (found_refusal modules.now list.now process position number symbols.now field.now) }
 {

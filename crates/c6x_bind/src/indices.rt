@@ -8,7 +8,7 @@ use crate::bind_error::BindError;
 use crate::bind_rule::BindRule;
 use crate::lookups::{index_of, slots_of};
 use crate::rules::check;
-use c6x_module::Module;
+use c6x_modules::Modules;
 use std::alloc::Global;
 
 /// The rules on the tables of the members: every module but the first has an index, no two have one, and every table
@@ -16,7 +16,7 @@ use std::alloc::Global;
 #[tactic(auto, unfolding(crate::specs::Binding::indices_refusal))]
 pub fn check_indices(
     alloc: Global,
-    modules: &[Module],
+    modules: &Modules,
     list: &[u32],
     process: u32,
     called: &[u8],
@@ -40,7 +40,7 @@ fn behind_first(list: &[u32]) -> &[u32]
 #[tactic(auto, using(crate::proofs::Walks::along_more))]
 fn check_assigned(
     alloc: Global,
-    modules: &[Module],
+    modules: &Modules,
     list: &[u32],
     process: u32,
     called: &[u8],
@@ -57,7 +57,7 @@ fn check_assigned(
 #[tactic(auto, unfolding(crate::specs::Binding::unassigned_refusal))]
 fn check_unassigned(
     alloc: Global,
-    modules: &[Module],
+    modules: &Modules,
     process: u32,
     called: &[u8],
     number: u32,
@@ -79,7 +79,7 @@ fn check_unassigned(
 #[tactic(auto, using(crate::proofs::Walks::duplicates_more))]
 fn check_distinct(
     alloc: Global,
-    modules: &[Module],
+    modules: &Modules,
     list: &[u32],
     process: u32,
     called: &[u8],
@@ -98,7 +98,7 @@ fn check_distinct(
 #[tactic(auto, unfolding(crate::specs::Binding::index_refusal))]
 fn check_index(
     alloc: Global,
-    modules: &[Module],
+    modules: &Modules,
     process: u32,
     called: &[u8],
     earlier: &[u32],
@@ -131,7 +131,7 @@ fn has(list: &[u32], number: u32) -> bool
 
 /// The greatest index of the members.
 #[tactic(auto, using(crate::proofs::Walks::greatest_more))]
-fn greatest_index(modules: &[Module], list: &[u32]) -> u32
+fn greatest_index(modules: &Modules, list: &[u32]) -> u32
     ensures { result ≡ greatest_index modules.now list.now }
 {
     let mut greatest = 0;
@@ -145,7 +145,7 @@ fn greatest_index(modules: &[Module], list: &[u32]) -> u32
 #[tactic(auto, using(crate::proofs::Walks::along_more))]
 fn check_slots(
     alloc: Global,
-    modules: &[Module],
+    modules: &Modules,
     list: &[u32],
     process: u32,
     called: &[u8],
@@ -163,7 +163,7 @@ fn check_slots(
 #[tactic(auto, unfolding(crate::specs::Binding::slots_refusal))]
 fn check_slot(
     alloc: Global,
-    modules: &[Module],
+    modules: &Modules,
     process: u32,
     called: &[u8],
     greatest: u32,

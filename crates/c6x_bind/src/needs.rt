@@ -4,16 +4,16 @@ ghost use Rattle.c6x_module.specs.declared.module.Module.{Module as Image};
 ghost use Rattle.c6x_bind.specs.Needs.{named_from, needs_of, needs_row, numbers_of, with_number};
 
 use c6x_base::{Name, Row};
-use c6x_module::Module;
+use c6x_modules::Modules;
 use std::alloc::{AllocError, Global};
 
 /// The number of the module with this name.
 #[tactic(auto, using(crate::proofs::Walks::named_more))]
-pub fn number_of(modules: &[Module], name: &[u8]) -> Option<u32>
+pub fn number_of(modules: &Modules, name: &[u8]) -> Option<u32>
     requires { length modules.now < 2 ^ 32 }
     ensures { result ≡ named_from name.now 0 modules.now }
 {
-    for (number, image) in modules.iter().enumerate() {
+    for (number, image) in modules.as_slice().iter().enumerate() {
         if image.name.as_bytes() == name {
             return Some(number as u32);
         }
@@ -23,12 +23,12 @@ pub fn number_of(modules: &[Module], name: &[u8]) -> Option<u32>
 
 /// For each module which modules it needs, names that no module has left out.
 #[tactic(auto, unfolding(crate::specs::Needs::needs_of))]
-pub fn needs_of(alloc: Global, modules: &[Module]) -> Result<Vec<Row<u32>>, AllocError>
+pub fn needs_of(alloc: Global, modules: &Modules) -> Result<Vec<Row<u32>>, AllocError>
     requires { length modules.now < 2 ^ 32 }
     ensures { IfOk result (λ needs. needs.items ≡ needs_of modules.now) }
 {
     let mut needs = Vec::new(alloc);
-    for image in modules {
+    for image in modules.as_slice() {
         needs.push(Row::of(numbers_of(alloc, modules, image.needed.as_slice())?))?;
     }
     Ok(needs)
@@ -36,7 +36,7 @@ pub fn needs_of(alloc: Global, modules: &[Module]) -> Result<Vec<Row<u32>>, Allo
 
 /// The numbers of the modules with these names.
 #[tactic(auto, using(crate::proofs::Walks::numbers_more))]
-fn numbers_of(alloc: Global, modules: &[Module], names: &[Name]) -> Result<Vec<u32>, AllocError>
+fn numbers_of(alloc: Global, modules: &Modules, names: &[Name]) -> Result<Vec<u32>, AllocError>
     requires { length modules.now < 2 ^ 32 }
     ensures { IfOk result (λ numbers. numbers.items ≡ numbers_of modules.now names.now) }
 {

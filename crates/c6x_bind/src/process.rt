@@ -11,7 +11,7 @@ use crate::indices::check_indices;
 use crate::rules::{check_counts, check_executable, check_missing};
 use crate::targets::bind_members;
 use c6x_base::Row;
-use c6x_module::Module;
+use c6x_modules::Modules;
 use c6x_search::search;
 use std::alloc::Global;
 
@@ -20,13 +20,12 @@ use std::alloc::Global;
 #[tactic(auto, unfolding(crate::specs::Binding::process_refusal, crate::specs::Binding::bound_process))]
 pub fn bind_process(
     alloc: Global,
-    modules: &[Module],
+    modules: &Modules,
     needs: &[Row<u32>],
     process: u32,
     called: &[u8],
     start: u32,
 ) -> Result<BoundProcess, BindError>
-    requires few { (number : ℕ) → length (symbols_of modules.now number) < 2 ^ 32 }
     requires short { length modules.now < 2 ^ 16 }
     requires known { needs.now ≡ needs_of modules.now }
     requires first { start < length modules.now }
@@ -42,12 +41,11 @@ pub fn bind_process(
 #[tactic(auto, unfolding(crate::specs::Binding::list_refusal))]
 fn bind_list(
     alloc: Global,
-    modules: &[Module],
+    modules: &Modules,
     list: Vec<u32>,
     process: u32,
     called: &[u8],
 ) -> Result<BoundProcess, BindError>
-    requires few { (number : ℕ) → length (symbols_of modules.now number) < 2 ^ 32 }
     requires short { length list.items < 2 ^ 16 }
     requires modules { length modules.now < 2 ^ 32 }
     ensures passes { Passes result (list_refusal modules.now process called.now list.items) }

@@ -9,7 +9,7 @@ use crate::limits::MOST_FIELDS;
 use crate::lookups::{fields_of, index_of, needed_of, slots_of};
 use crate::needs::number_of;
 use c6x_base::Name;
-use c6x_module::Module;
+use c6x_modules::Modules;
 use c6x_plan::limits::MOST_SLOTS;
 use std::alloc::Global;
 
@@ -40,7 +40,7 @@ pub fn check(
 #[tactic(auto, unfolding(crate::specs::Binding::exec_refusal))]
 pub fn check_executable(
     alloc: Global,
-    modules: &[Module],
+    modules: &Modules,
     process: u32,
     called: &[u8],
     start: u32,
@@ -62,7 +62,7 @@ pub fn check_executable(
 #[tactic(auto, using(crate::proofs::Walks::along_more))]
 pub fn check_missing(
     alloc: Global,
-    modules: &[Module],
+    modules: &Modules,
     list: &[u32],
     process: u32,
 ) -> Result<(), BindError>
@@ -79,7 +79,7 @@ pub fn check_missing(
 #[tactic(auto, using(crate::proofs::Walks::along_more))]
 fn check_needed(
     alloc: Global,
-    modules: &[Module],
+    modules: &Modules,
     process: u32,
     number: u32,
 ) -> Result<(), BindError>
@@ -96,7 +96,7 @@ fn check_needed(
 #[tactic(auto, unfolding(crate::specs::Binding::name_refusal))]
 fn check_name(
     alloc: Global,
-    modules: &[Module],
+    modules: &Modules,
     process: u32,
     number: u32,
     name: &[u8],
@@ -112,7 +112,7 @@ fn check_name(
 #[tactic(auto, unfolding(crate::specs::Binding::counts_refusal, crate::specs::Binding::fields_refusal))]
 pub fn check_counts(
     alloc: Global,
-    modules: &[Module],
+    modules: &Modules,
     list: &[u32],
     process: u32,
     called: &[u8],
@@ -128,7 +128,7 @@ pub fn check_counts(
 #[tactic(auto, using(crate::proofs::Walks::along_more))]
 fn check_tables(
     alloc: Global,
-    modules: &[Module],
+    modules: &Modules,
     list: &[u32],
     process: u32,
     called: &[u8],
@@ -145,7 +145,7 @@ fn check_tables(
 #[tactic(auto, unfolding(crate::specs::Binding::table_refusal))]
 fn check_table(
     alloc: Global,
-    modules: &[Module],
+    modules: &Modules,
     process: u32,
     called: &[u8],
     number: u32,
@@ -158,7 +158,7 @@ fn check_table(
 
 /// How many fields the members have together, or the greatest number where they have more.
 #[tactic(auto, using(crate::proofs::Walks::count_more))]
-fn count_fields(modules: &[Module], list: &[u32]) -> u64
+fn count_fields(modules: &Modules, list: &[u32]) -> u64
     ensures { result ≡ min (all_fields modules.now list.now) (2 ^ 64 - 1) }
 {
     let mut count: u64 = 0;

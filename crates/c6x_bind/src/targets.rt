@@ -15,6 +15,7 @@ use crate::target::Target;
 use c6x_base::Row;
 use c6x_elf::{SectionClass, Segment};
 use c6x_module::{DynSymbol, Field, Module};
+use c6x_modules::Modules;
 use std::alloc::Global;
 
 /// An address lies in a segment, or at its end.
@@ -70,17 +71,17 @@ fn class_target(
 }
 
 /// What the symbol of the module with this number stands for.
-fn member_target(modules: &[Module], number: u32, position: u32, symbol: u32) -> Option<Target>
+fn member_target(modules: &Modules, number: u32, position: u32, symbol: u32) -> Option<Target>
     ensures { result ≡ member_target (slice_get modules.now number) position symbol }
 {
-    match modules.get(number as usize) {
+    match modules.as_slice().get(number as usize) {
         None => None,
         Some(image) => symbol_target(image, position, symbol),
     }
 }
 
 /// What a definition stands for.
-fn found_target(modules: &[Module], list: &[u32], found: Found) -> Option<Target>
+fn found_target(modules: &Modules, list: &[u32], found: Found) -> Option<Target>
     ensures { result ≡ found_target modules.now list.now found }
 {
     match found {
@@ -96,13 +97,12 @@ fn found_target(modules: &[Module], list: &[u32], found: Found) -> Option<Target
 /// What a field stands for.
 #[tactic(auto, unfolding(crate::specs::Definitions::field_target))]
 fn field_target(
-    modules: &[Module],
+    modules: &Modules,
     list: &[u32],
     position: u32,
     symbols: &[DynSymbol],
     field: &Field,
 ) -> Option<Target>
-    requires few { (number : ℕ) → length (symbols_of modules.now number) < 2 ^ 32 }
     requires short { length list.now < 2 ^ 16 }
     ensures { result ≡ field_target modules.now list.now position symbols.now field.now }
 {
@@ -118,11 +118,10 @@ fn field_target(
 #[tactic(auto, using(crate::proofs::Walks::outside_more, crate::proofs::Walks::targets_more))]
 pub fn bind_members(
     alloc: Global,
-    modules: &[Module],
+    modules: &Modules,
     list: &[u32],
     process: u32,
 ) -> Result<Vec<Row<Target>>, BindError>
-    requires few { (number : ℕ) → length (symbols_of modules.now number) < 2 ^ 32 }
     requires short { length list.now < 2 ^ 16 }
     ensures passes { Passes result (outside_from modules.now list.now process 0 list.now) }
     ensures value { IfOk result (λ targets. targets.items ≡ targets_from modules.now list.now 0 list.now) }
@@ -139,13 +138,12 @@ pub fn bind_members(
 #[tactic(auto, using(crate::proofs::Walks::along_more))]
 fn bind_member(
     alloc: Global,
-    modules: &[Module],
+    modules: &Modules,
     list: &[u32],
     process: u32,
     position: u32,
     number: u32,
 ) -> Result<Vec<Target>, BindError>
-    requires few { (number : ℕ) → length (symbols_of modules.now number) < 2 ^ 32 }
     requires short { length list.now < 2 ^ 16 }
     ensures passes { Passes result (first_along (outside_refusal modules.now list.now process position number (symbols_of modules.now number)) (fields_of modules.now number)) }
     ensures value { IfOk result (λ targets. targets.items ≡ member_targets modules.now list.now position number) }
@@ -164,7 +162,7 @@ fn bind_member(
 #[tactic(auto, unfolding(crate::specs::Binding::outside_refusal))]
 fn bind_field(
     alloc: Global,
-    modules: &[Module],
+    modules: &Modules,
     list: &[u32],
     process: u32,
     position: u32,
@@ -172,7 +170,6 @@ fn bind_field(
     symbols: &[DynSymbol],
     field: &Field,
 ) -> Result<Target, BindError>
-    requires few { (number : ℕ) → length (symbols_of modules.now number) < 2 ^ 32 }
     requires short { length list.now < 2 ^ 16 }
     ensures passes { Passes result (outside_refusal modules.now list.now process position number symbols.now field.now) }
     ensures value { IfOk result (λ target. target ≡ field_value modules.now list.now position symbols.now field.now) }
