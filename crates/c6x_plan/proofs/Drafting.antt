@@ -1,4 +1,4 @@
-use Rattle.std.proofs.Common.{◌≡◌, ℕ, List, [], ◌∷◌, ◌++◌, refl, ◌∙◌, ap}
+use Rattle.std.proofs.Common.{◌≡◌, ℕ, List, [], ◌∷◌, ◌++◌, refl, subst, ◌∙◌, ap}
 use Rattle.std.specs.Prelude.{Option, None, Some, Result, Ok, Err}
 use Rattle.std.specs.List.{filter_map, cons_option}
 use Rattle.c6x_spec.specs.Results.{◌>>=◌}
@@ -77,3 +77,17 @@ listed_more given (first ∷ lines) line value some =
 pub not_said : {X : Type 0} (slot : Option X) → once slot ≡ None → slot ≡ None
 not_said None none = refl
 not_said (Some value) none = absurd (cc)
+
+-- what holds of a draft, and of each with a line more, holds of the draft of all lines
+kept_ruled : {D L : Type 0} (form : List (List ℕ) → Option L) (rule : D → L → Option PlanRule) (with : D → L → D) (P : D → Type 0) (step : (d : D) (words : List (List ℕ)) (m : L) → form words ≡ Some m → rule d m ≡ None → P d → P (with d m)) (draft end : D) (number : ℕ) (words : List (List ℕ)) (m : L) (broken : Option PlanRule) (next : D → Result D PlanError) → form words ≡ Some m → rule draft m ≡ broken → P draft → ((more : D) → next more ≡ Ok end → P more → P end) → (drafted_by with draft (ruled number (Some m) broken) >>= next) ≡ Ok end → P end
+kept_ruled form rule with P step draft end number words m None next meant is has later all = later (with draft m) all (step draft words m meant is has)
+kept_ruled form rule with P step draft end number words m (Some broken) next meant is has later all = absurd (cc)
+
+kept_formed : {D L : Type 0} (form : List (List ℕ) → Option L) (rule : D → L → Option PlanRule) (with : D → L → D) (P : D → Type 0) (step : (d : D) (words : List (List ℕ)) (m : L) → form words ≡ Some m → rule d m ≡ None → P d → P (with d m)) (draft end : D) (number : ℕ) (words : List (List ℕ)) (found : Option L) (next : D → Result D PlanError) → form words ≡ found → P draft → ((more : D) → next more ≡ Ok end → P more → P end) → (drafted_by with draft (ruled number found (rule_of (rule draft) found)) >>= next) ≡ Ok end → P end
+kept_formed form rule with P step draft end number words None next meant has later all = absurd (cc)
+kept_formed form rule with P step draft end number words (Some m) next meant has later all = kept_ruled form rule with P step draft end number words m (rule draft m) next meant refl has later all
+
+pub drafted_keeps : {D L : Type 0} (form : List (List ℕ) → Option L) (rule : D → L → Option PlanRule) (with : D → L → D) (P : D → Type 0) (step : (d : D) (words : List (List ℕ)) (m : L) → form words ≡ Some m → rule d m ≡ None → P d → P (with d m)) (lines : List Said) (draft end : D) → drafted form rule with draft lines ≡ Ok end → P draft → P end
+drafted_keeps form rule with P step [] draft end all has = let same : draft ≡ end = cc in subst P same has
+drafted_keeps form rule with P step (line ∷ lines) draft end all has =
+    kept_formed form rule with P step draft end line.line line.words (form line.words) (λ more. drafted form rule with more lines) refl has (λ more. drafted_keeps form rule with P step lines more end) all

@@ -5,4 +5,5 @@ pub mod LinesLeft
 pub mod Drafting
 pub mod Places
 pub mod LinkDrafting
+pub mod Within
 pub mod RunDrafting

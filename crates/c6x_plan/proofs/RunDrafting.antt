@@ -1,4 +1,4 @@
-use Rattle.std.proofs.Common.{◌≡◌, ℕ, ◌≤◌, Bool, true, false, List, ◌++◌, ◌∷◌, [], length, refl, sym, ◌∙◌, ap, subst, lit≤, arith, length-append}
+use Rattle.std.proofs.Common.{◌≡◌, ℕ, ◌≤◌, Bool, true, false, List, ◌++◌, ◌∷◌, [], length, refl, sym, ◌∙◌, ap, lit≤, arith, length-append}
 use Rattle.std.specs.Prelude.{Option, None, Some, Result, Ok, Err, codes, not, ◌||◌, nat_le}
 use Rattle.std.proofs.lemmas.Bool.Decides.{nat_tests}
 use Rattle.c6x_spec.specs.Results.{◌>>=◌}
@@ -6,7 +6,6 @@ use Rattle.c6x_plan.specs.declared.limits.TheConstants.{MOST_MODULES, MOST_PROCE
 use Rattle.c6x_plan.specs.declared.module_plan.ModulePlan.{ModulePlan}
 use Rattle.c6x_plan.specs.declared.plan_error.PlanError.{PlanError}
 use Rattle.c6x_plan.specs.declared.plan_error.PlanError.TheVariants.{Syntax, Name, Count, NoMemory}
-use Rattle.c6x_plan.specs.declared.plan_rule.PlanRule.{PlanRule}
 use Rattle.c6x_plan.specs.declared.run_draft.RunDraft.{RunDraft}
 use Rattle.c6x_plan.specs.declared.run_line.ProcessLine.{ProcessLine}
 use Rattle.c6x_plan.specs.declared.run_line.RunLine.{RunLine}
@@ -16,9 +15,9 @@ use Rattle.c6x_plan.specs.Lines.{Said, said_lines}
 use Rattle.c6x_plan.specs.RunDrafts.{draft_rule, draft_with, finished, run_draft_of}
 use Rattle.c6x_plan.specs.RunLines.{has_module, has_process, module_in, name_or_count, process_in, quantum_in, run_line, run_rule}
 use Rattle.c6x_plan.specs.RunPlans.{run_plan, run_plan_of, with_process}
-use Rattle.c6x_plan.specs.Rules.{AddsWithin, Drafts, Reads, ReadsBy, behind_first, drafted, drafted_by, first_given, meanings, rule_of, ruled}
+use Rattle.c6x_plan.specs.Rules.{AddsWithin, Drafts, Reads, ReadsBy, behind_first, drafted, drafted_by, first_given, meanings, ruled}
 use Rattle.c6x_plan.specs.TextLines.{lines_left}
-use Rattle.c6x_plan.proofs.Drafting.{drafted_meant, given_first, given_kept, listed_kept, listed_more, not_said, stops}
+use Rattle.c6x_plan.proofs.Drafting.{drafted_keeps, drafted_meant, given_first, given_kept, listed_kept, listed_more, not_said, stops}
 
 -- a module whose name was given, and one whose name was not
 pub module_again : (draft : RunDraft) (image : ModulePlan) (line : ℕ) → has_module draft.modules image.name ≡ true → drafted_by draft_with draft (ruled line (Some (Module image)) (draft_rule draft (Module image))) ≡ Err (Name line)
@@ -123,17 +122,8 @@ with_few draft (Quantum quantum) none few = few
 with_few draft (Module image) none few = one_more draft.modules image (count_none _ _ none)
 with_few draft (Process process) none few = few
 
-few_ruled : (draft end : RunDraft) (number : ℕ) (m : RunLine) (broken : Option PlanRule) (next : RunDraft → Result RunDraft PlanError) → draft_rule draft m ≡ broken → length draft.modules ≤ 32 → ((more : RunDraft) → next more ≡ Ok end → length more.modules ≤ 32 → length end.modules ≤ 32) → (drafted_by draft_with draft (ruled number (Some m) broken) >>= next) ≡ Ok end → length end.modules ≤ 32
-few_ruled draft end number m None next is few later all = later (draft_with draft m) all (with_few draft m is few)
-few_ruled draft end number m (Some rule) next is few later all = absurd (cc)
-
-few_formed : (draft end : RunDraft) (number : ℕ) (found : Option RunLine) (next : RunDraft → Result RunDraft PlanError) → length draft.modules ≤ 32 → ((more : RunDraft) → next more ≡ Ok end → length more.modules ≤ 32 → length end.modules ≤ 32) → (drafted_by draft_with draft (ruled number found (rule_of (draft_rule draft) found)) >>= next) ≡ Ok end → length end.modules ≤ 32
-few_formed draft end number None next few later all = absurd (cc)
-few_formed draft end number (Some m) next few later all = few_ruled draft end number m (draft_rule draft m) next refl few later all
-
-few_from : (lines : List Said) (draft end : RunDraft) → drafted run_line draft_rule draft_with draft lines ≡ Ok end → length draft.modules ≤ 32 → length end.modules ≤ 32
-few_from [] draft end all few = let same : draft ≡ end = cc in let P : RunDraft → Type 0 = λ (d : RunDraft). length d.modules ≤ 32 in subst P same few
-few_from (line ∷ lines) draft end all few = few_formed draft end line.line (run_line line.words) (λ more. drafted run_line draft_rule draft_with more lines) few (λ (more : RunDraft). few_from lines more end) all
+abbrev IsFew : RunDraft → Type 0
+IsFew draft = length draft.modules ≤ 32
 
 pub few_modules : (lines : List Said) (end : RunDraft) → drafted run_line draft_rule draft_with (run_draft_of []) lines ≡ Ok end → length end.modules ≤ 32
-few_modules lines end all = few_from lines (run_draft_of []) end all (lit≤ tt)
+few_modules lines end all = drafted_keeps run_line draft_rule draft_with IsFew (λ d words m meant is few. with_few d m is few) lines (run_draft_of []) end all (lit≤ tt)

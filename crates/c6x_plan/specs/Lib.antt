@@ -7,6 +7,7 @@ pub mod LinkDrafts
 pub mod RunLines
 pub mod RunPlans
 pub mod RunDrafts
+pub mod Limits
 pub mod Plain
 pub mod Answer
 pub mod Parts

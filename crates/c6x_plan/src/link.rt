@@ -1,5 +1,6 @@
-ghost use Rattle.std.specs.Prelude.{◌≡◌, ◌^◌, ◌<◌, length, []};
-ghost use Rattle.c6x_plan.specs.LinkDrafts.{draft_rule, draft_with, finished, link_draft_of};
+ghost use Rattle.std.specs.Prelude.{◌≡◌, ◌^◌, ◌<◌, length, [], IfOk};
+ghost use Rattle.c6x_plan.specs.Limits.{IsLinkPlan};
+ghost use Rattle.c6x_plan.specs.LinkDrafts.{draft_rule, draft_with, finished, link_draft_of, plan_drafted};
 ghost use Rattle.c6x_plan.specs.LinkPlans.{link_line, link_plan};
 ghost use Rattle.c6x_plan.specs.Rules.{Reads, drafted};
 ghost use Rattle.c6x_plan.specs.TextLines.{lines_left};
@@ -25,7 +26,8 @@ use std::alloc::Global;
 #[tactic(auto, using(crate::proofs::LinkDrafting::first_refused, crate::proofs::LinkDrafting::line_refused))]
 pub fn read_link_plan(alloc: Global, text: &[u8]) -> Result<LinkPlan, PlanError>
     requires { length text.now < 2 ^ 32 }
-    ensures { Reads result (link_plan text.now) }
+    ensures reads { Reads result (link_plan text.now) }
+    ensures within { IfOk result IsLinkPlan }
 {
     let lines = lines_behind(alloc, b"c6x-link", text)?;
     let draft = drafted(alloc, lines)?;
@@ -46,7 +48,8 @@ fn drafted(alloc: Global, lines: Lines<'_>) -> Result<LinkDraft, PlanError>
 /// The plan of what all lines said.
 #[tactic(auto, unfolding(crate::specs::LinkDrafts::finished))]
 fn finished(draft: LinkDraft) -> Result<LinkPlan, PlanError>
-    ensures { Reads result (finished draft) }
+    ensures reads { Reads result (finished draft) }
+    ensures value { IfOk result (λ plan. plan ≡ plan_drafted draft) }
 {
     if draft.objects.as_slice().is_empty() {
         return Err(PlanError::Count { line: 0 });
