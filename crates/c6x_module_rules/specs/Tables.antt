@@ -13,6 +13,7 @@ use Rattle.c6x_elf.specs.TableEntries.{rela_at, rela_entries, symbol_entries}
 use Rattle.c6x_elf.specs.Types.{Dyn, Rela, Symbol}
 use Rattle.c6x_elf.specs.declared.segment.Segment.{Segment}
 use Rattle.c6x_module.specs.declared.module_rule.ModuleRule.TheVariants.{DynamicOutside}
+use Rattle.c6x_module_rules.specs.declared.addresses.Addresses.{Addresses}
 use Rattle.c6x_module_rules.specs.Refusals.{Refusal, must, found}
 use Rattle.c6x_module_rules.specs.Entries.{tag_value, tag_or}
 
@@ -21,12 +22,6 @@ abbrev pub tag_in : ℕ → List Dyn → Result ℕ Refusal
 tag_in tag ds = found (tag_value tag ds) DynamicOutside tag
 
 -- Where the tables stand that have to be there.
-pub record Addresses : Type 0 where
-  pub hash : ℕ
-  pub strings : ℕ
-  pub symbols : ℕ
-  pub size : ℕ
-
 unfoldable pub addresses_in : List Dyn → Result Addresses Refusal
 addresses_in ds =
     tag_in DT_HASH ds >>= λ hash.

@@ -3,6 +3,7 @@
 //! entries name are read in `c6x_module_tables`.
 #![tactic(auto)]
 
+mod addresses;
 mod checks;
 mod entries;
 mod fields;
@@ -10,6 +11,7 @@ mod overlaps;
 mod ranges;
 mod shape;
 
+pub use addresses::{Addresses, find_addresses};
 pub use checks::check;
 pub use entries::{check_dsbt, find_entries, tag_or, tag_value};
 pub use fields::{
