@@ -4,7 +4,7 @@ use Rattle.std.specs.List.{filter_map, cons_option}
 use Rattle.c6x_spec.specs.Results.{◌>>=◌}
 use Rattle.c6x_plan.specs.declared.plan_error.PlanError.{PlanError}
 use Rattle.c6x_plan.specs.declared.plan_error.PlanError.TheVariants.{Syntax, Name, Count, NoMemory}
-use Rattle.c6x_plan.specs.declared.plan_rule.PlanRule.{PlanRule}
+use Rattle.c6x_plan.specs.PlanRules.{Broken, PlanRule}
 use Rattle.c6x_plan.specs.Lines.{Said}
 use Rattle.c6x_plan.specs.Rules.{once, Drafts, Reads, ReadsBy, drafted, drafted_by, first_given, line_drafted, meanings, or_later, rule_of, ruled}
 
@@ -20,7 +20,7 @@ line_broken A form rule with draft more line lines (Name n) is = rw is refl
 line_broken A form rule with draft more line lines (Count n) is = rw is refl
 
 -- what is broken first stops all that would follow
-pub stops : {A B C : Type 0} (view : A → B) (broken : PlanError) (told : Result B PlanError) (next : B → Result C PlanError) → ReadsBy view (Err broken) told → Reads {A = C} (Err broken) (told >>= next)
+pub stops : {A B C : Type 0} (view : A → B) (broken : PlanError) (told : Result B Broken) (next : B → Result C Broken) → ReadsBy view (Err broken) told → Reads {A = C} (Err broken) (told >>= next)
 stops view NoMemory told next is = tt
 stops view (Syntax n) told next is = rw is refl
 stops view (Name n) told next is = rw is refl
@@ -79,11 +79,11 @@ not_said None none = refl
 not_said (Some value) none = absurd (cc)
 
 -- what holds of a draft, and of each with a line more, holds of the draft of all lines
-kept_ruled : {D L : Type 0} (form : List (List ℕ) → Option L) (rule : D → L → Option PlanRule) (with : D → L → D) (P : D → Type 0) (step : (d : D) (words : List (List ℕ)) (m : L) → form words ≡ Some m → rule d m ≡ None → P d → P (with d m)) (draft end : D) (number : ℕ) (words : List (List ℕ)) (m : L) (broken : Option PlanRule) (next : D → Result D PlanError) → form words ≡ Some m → rule draft m ≡ broken → P draft → ((more : D) → next more ≡ Ok end → P more → P end) → (drafted_by with draft (ruled number (Some m) broken) >>= next) ≡ Ok end → P end
+kept_ruled : {D L : Type 0} (form : List (List ℕ) → Option L) (rule : D → L → Option PlanRule) (with : D → L → D) (P : D → Type 0) (step : (d : D) (words : List (List ℕ)) (m : L) → form words ≡ Some m → rule d m ≡ None → P d → P (with d m)) (draft end : D) (number : ℕ) (words : List (List ℕ)) (m : L) (broken : Option PlanRule) (next : D → Result D Broken) → form words ≡ Some m → rule draft m ≡ broken → P draft → ((more : D) → next more ≡ Ok end → P more → P end) → (drafted_by with draft (ruled number (Some m) broken) >>= next) ≡ Ok end → P end
 kept_ruled form rule with P step draft end number words m None next meant is has later all = later (with draft m) all (step draft words m meant is has)
 kept_ruled form rule with P step draft end number words m (Some broken) next meant is has later all = absurd (cc)
 
-kept_formed : {D L : Type 0} (form : List (List ℕ) → Option L) (rule : D → L → Option PlanRule) (with : D → L → D) (P : D → Type 0) (step : (d : D) (words : List (List ℕ)) (m : L) → form words ≡ Some m → rule d m ≡ None → P d → P (with d m)) (draft end : D) (number : ℕ) (words : List (List ℕ)) (found : Option L) (next : D → Result D PlanError) → form words ≡ found → P draft → ((more : D) → next more ≡ Ok end → P more → P end) → (drafted_by with draft (ruled number found (rule_of (rule draft) found)) >>= next) ≡ Ok end → P end
+kept_formed : {D L : Type 0} (form : List (List ℕ) → Option L) (rule : D → L → Option PlanRule) (with : D → L → D) (P : D → Type 0) (step : (d : D) (words : List (List ℕ)) (m : L) → form words ≡ Some m → rule d m ≡ None → P d → P (with d m)) (draft end : D) (number : ℕ) (words : List (List ℕ)) (found : Option L) (next : D → Result D Broken) → form words ≡ found → P draft → ((more : D) → next more ≡ Ok end → P more → P end) → (drafted_by with draft (ruled number found (rule_of (rule draft) found)) >>= next) ≡ Ok end → P end
 kept_formed form rule with P step draft end number words None next meant has later all = absurd (cc)
 kept_formed form rule with P step draft end number words (Some m) next meant has later all = kept_ruled form rule with P step draft end number words m (rule draft m) next meant refl has later all
 
@@ -91,3 +91,6 @@ pub drafted_keeps : {D L : Type 0} (form : List (List ℕ) → Option L) (rule :
 drafted_keeps form rule with P step [] draft end all has = let same : draft ≡ end = cc in subst P same has
 drafted_keeps form rule with P step (line ∷ lines) draft end all has =
     kept_formed form rule with P step draft end line.line line.words (form line.words) (λ more. drafted form rule with more lines) refl has (λ more. drafted_keeps form rule with P step lines more end) all
+
+pub same_line : (n line : ℕ) → Count n ≡ Count line → n ≡ line
+same_line n line is = cc

@@ -10,18 +10,19 @@ use Rattle.c6x_plan.specs.declared.link_plan.LinkPlan.{LinkPlan}
 use Rattle.c6x_plan.specs.declared.limits.TheConstants.{MOST_NEEDED}
 use Rattle.c6x_plan.specs.declared.plan_error.PlanError.{PlanError}
 use Rattle.c6x_plan.specs.declared.plan_error.PlanError.TheVariants.{Syntax, Name, Count, NoMemory}
+use Rattle.c6x_plan.specs.PlanRules.{Broken, Name as NameRule, broken_at}
 use Rattle.c6x_plan.specs.Lines.{Said, said_lines}
 use Rattle.c6x_plan.specs.LinkDrafts.{draft_rule, draft_with, finished, link_draft_of}
 use Rattle.c6x_plan.specs.LinkPlans.{again, entry_in, index_in, link_line, link_plan, link_plan_of, link_rule, needed_in, object_in, output_in, soname_in, table_in, with_object}
 use Rattle.c6x_plan.specs.Rules.{AddsWithin, Drafts, Reads, ReadsBy, behind_first, drafted, drafted_by, first_given, meanings, ruled}
 use Rattle.c6x_plan.specs.TextLines.{lines_left}
-use Rattle.c6x_plan.proofs.Drafting.{drafted_meant, given_first, given_kept, listed_kept, listed_more, not_said, stops}
+use Rattle.c6x_plan.proofs.Drafting.{drafted_meant, given_first, given_kept, listed_kept, listed_more, not_said, same_line, stops}
 
 abbrev draft : Option Bool → Option ℕ → Option ℕ → Option (List ℕ) → Option (List ℕ) → List (List ℕ) → List (List ℕ) → LinkDraft
 draft output index table entry soname needed objects = record { output = output; index = index; table = table; entry = entry; soname = soname; needed = needed; objects = objects }
 
 -- a needed name that was said
-pub needed_again : (draft : LinkDraft) (name : List ℕ) (line : ℕ) → list_any (λ other. bytes_eq other name) draft.needed ≡ true → drafted_by draft_with draft (ruled line (Some (Needed name)) (draft_rule draft (Needed name))) ≡ Err (Name line)
+pub needed_again : (draft : LinkDraft) (name : List ℕ) (line : ℕ) → list_any (λ other. bytes_eq other name) draft.needed ≡ true → drafted_by draft_with draft (ruled line (Some (Needed name)) (draft_rule draft (Needed name))) ≡ Err (broken_at line NameRule)
 unfolding draft_rule
 needed_again draft name line is = rw is refl
 
@@ -30,9 +31,9 @@ pub needed_added : {A : Type 0} (result : Result A PlanError) (draft : LinkDraft
 unfolding draft_rule draft_with
 needed_added (Ok done) draft after name line new is = rw (new, is.0, is.1) refl
 needed_added (Err NoMemory) draft after name line new is = tt
-needed_added (Err (Syntax n)) draft after name line new is = rw (new, is.0, is.1) refl
-needed_added (Err (Name n)) draft after name line new is = rw (new, is.0, is.1) refl
-needed_added (Err (Count n)) draft after name line new is = rw (new, is.0, is.1) refl
+needed_added (Err (Syntax n)) draft after name line new is = absurd (cc is.1)
+needed_added (Err (Name n)) draft after name line new is = absurd (cc is.1)
+needed_added (Err (Count n)) draft after name line new is = rw (new, is.0, same_line n line is.1) refl
 
 not_again : {X : Type 0} (given : LinkLine → Option X) (earlier : List LinkLine) → again given earlier ≡ None → first_given given earlier ≡ None
 not_again given earlier none = not_said (first_given given earlier) none
@@ -78,7 +79,7 @@ line_more earlier (Object file) none =
     draft_is _ _ _ _ _ _ _ _ _ _ _ _ _ _ (sym (given_kept output_in earlier m refl)) (sym (given_kept index_in earlier m refl)) (sym (given_kept table_in earlier m refl)) (sym (given_kept entry_in earlier m refl)) (sym (given_kept soname_in earlier m refl)) (sym (listed_kept needed_in earlier m refl)) (sym (listed_more object_in earlier m file refl))
 
 -- so what the reader finishes is the plan of the text
-finish_meant : (meant : Result (List LinkLine) PlanError) → ((meant >>= λ lines. Ok (link_draft_of lines)) >>= finished) ≡ (meant >>= λ lines. with_object (link_plan_of lines))
+finish_meant : (meant : Result (List LinkLine) Broken) → ((meant >>= λ lines. Ok (link_draft_of lines)) >>= finished) ≡ (meant >>= λ lines. with_object (link_plan_of lines))
 unfolding finished link_plan_of
 finish_meant (Ok lines) = refl
 finish_meant (Err broken) = refl
@@ -86,7 +87,7 @@ finish_meant (Err broken) = refl
 pub link_plan_is : (text : List ℕ) (lines : List Said) → behind_first (codes "c6x-link") (said_lines 0 text) ≡ Ok lines → link_plan text ≡ (drafted link_line draft_rule draft_with (link_draft_of []) lines >>= finished)
 unfolding link_plan
 link_plan_is text lines is =
-    rw is (sym (ap (λ (told : Result LinkDraft PlanError). told >>= finished) (drafted_meant link_line draft_rule draft_with link_rule link_draft_of rule_same line_more lines [])
+    rw is (sym (ap (λ (told : Result LinkDraft Broken). told >>= finished) (drafted_meant link_line draft_rule draft_with link_rule link_draft_of rule_same line_more lines [])
     ∙ finish_meant (meanings link_line link_rule [] lines)))
 
 -- a text whose first line is refused, one with a line that breaks a rule, and one that is read

@@ -11,16 +11,17 @@ use Rattle.c6x_plan.specs.declared.run_line.ProcessLine.{ProcessLine}
 use Rattle.c6x_plan.specs.declared.run_line.RunLine.{RunLine}
 use Rattle.c6x_plan.specs.declared.run_line.RunLine.TheVariants.{Quantum, Module, Process}
 use Rattle.c6x_plan.specs.declared.run_plan.RunPlan.{RunPlan}
+use Rattle.c6x_plan.specs.PlanRules.{Broken, Name as NameRule, broken_at}
 use Rattle.c6x_plan.specs.Lines.{Said, said_lines}
 use Rattle.c6x_plan.specs.RunDrafts.{draft_rule, draft_with, finished, run_draft_of}
 use Rattle.c6x_plan.specs.RunLines.{has_module, has_process, module_in, name_or_count, process_in, quantum_in, run_line, run_rule}
 use Rattle.c6x_plan.specs.RunPlans.{run_plan, run_plan_of, with_process}
 use Rattle.c6x_plan.specs.Rules.{AddsWithin, Drafts, Reads, ReadsBy, behind_first, drafted, drafted_by, first_given, meanings, ruled}
 use Rattle.c6x_plan.specs.TextLines.{lines_left}
-use Rattle.c6x_plan.proofs.Drafting.{drafted_keeps, drafted_meant, given_first, given_kept, listed_kept, listed_more, not_said, stops}
+use Rattle.c6x_plan.proofs.Drafting.{drafted_keeps, drafted_meant, given_first, given_kept, listed_kept, listed_more, not_said, same_line, stops}
 
 -- a module whose name was given, and one whose name was not
-pub module_again : (draft : RunDraft) (image : ModulePlan) (line : ℕ) → has_module draft.modules image.name ≡ true → drafted_by draft_with draft (ruled line (Some (Module image)) (draft_rule draft (Module image))) ≡ Err (Name line)
+pub module_again : (draft : RunDraft) (image : ModulePlan) (line : ℕ) → has_module draft.modules image.name ≡ true → drafted_by draft_with draft (ruled line (Some (Module image)) (draft_rule draft (Module image))) ≡ Err (broken_at line NameRule)
 unfolding draft_rule
 module_again draft image line is = rw is refl
 
@@ -28,9 +29,9 @@ pub module_added : {A : Type 0} (result : Result A PlanError) (draft : RunDraft)
 unfolding draft_rule draft_with
 module_added (Ok done) draft after image line new is = rw (new, is.0, is.1) refl
 module_added (Err NoMemory) draft after image line new is = tt
-module_added (Err (Syntax n)) draft after image line new is = rw (new, is.0, is.1) refl
-module_added (Err (Name n)) draft after image line new is = rw (new, is.0, is.1) refl
-module_added (Err (Count n)) draft after image line new is = rw (new, is.0, is.1) refl
+module_added (Err (Syntax n)) draft after image line new is = absurd (cc is.1)
+module_added (Err (Name n)) draft after image line new is = absurd (cc is.1)
+module_added (Err (Count n)) draft after image line new is = rw (new, is.0, same_line n line is.1) refl
 
 -- the same of a process
 is_refused : (named : Bool) → not named ≡ false → named ≡ true
@@ -44,7 +45,7 @@ is_allowed false is = refl
 abbrev pub is_named : RunDraft → ProcessLine → Bool
 is_named draft process = not (has_module draft.modules process.image) || has_process draft.processes process.name
 
-pub process_again : (draft : RunDraft) (process : ProcessLine) (line : ℕ) → not (is_named draft process) ≡ false → drafted_by draft_with draft (ruled line (Some (Process process)) (draft_rule draft (Process process))) ≡ Err (Name line)
+pub process_again : (draft : RunDraft) (process : ProcessLine) (line : ℕ) → not (is_named draft process) ≡ false → drafted_by draft_with draft (ruled line (Some (Process process)) (draft_rule draft (Process process))) ≡ Err (broken_at line NameRule)
 unfolding draft_rule
 process_again draft process line is = rw (is_refused (is_named draft process) is) refl
 
@@ -52,9 +53,9 @@ pub process_added : {A : Type 0} (result : Result A PlanError) (draft : RunDraft
 unfolding draft_rule draft_with
 process_added (Ok done) draft after process line new is = rw (is_allowed (is_named draft process) new, is.0, is.1) refl
 process_added (Err NoMemory) draft after process line new is = tt
-process_added (Err (Syntax n)) draft after process line new is = rw (is_allowed (is_named draft process) new, is.0, is.1) refl
-process_added (Err (Name n)) draft after process line new is = rw (is_allowed (is_named draft process) new, is.0, is.1) refl
-process_added (Err (Count n)) draft after process line new is = rw (is_allowed (is_named draft process) new, is.0, is.1) refl
+process_added (Err (Syntax n)) draft after process line new is = absurd (cc is.1)
+process_added (Err (Name n)) draft after process line new is = absurd (cc is.1)
+process_added (Err (Count n)) draft after process line new is = rw (is_allowed (is_named draft process) new, is.0, same_line n line is.1) refl
 
 abbrev draft : Option ℕ → List ModulePlan → List ProcessLine → RunDraft
 draft quantum modules processes = record { quantum = quantum; modules = modules; processes = processes }
@@ -84,7 +85,7 @@ line_more earlier (Process process) none =
     draft_is _ _ _ _ _ _ (sym (given_kept quantum_in earlier m refl)) (sym (listed_kept module_in earlier m refl)) (sym (listed_more process_in earlier m process refl))
 
 -- so what the reader finishes is the plan of the text
-finish_meant : (meant : Result (List RunLine) PlanError) → ((meant >>= λ lines. Ok (run_draft_of lines)) >>= finished) ≡ (meant >>= λ lines. with_process (run_plan_of lines))
+finish_meant : (meant : Result (List RunLine) Broken) → ((meant >>= λ lines. Ok (run_draft_of lines)) >>= finished) ≡ (meant >>= λ lines. with_process (run_plan_of lines))
 unfolding finished run_plan_of
 finish_meant (Ok lines) = refl
 finish_meant (Err broken) = refl
@@ -92,7 +93,7 @@ finish_meant (Err broken) = refl
 pub run_plan_is : (text : List ℕ) (lines : List Said) → behind_first (codes "c6x-plan") (said_lines 0 text) ≡ Ok lines → run_plan text ≡ (drafted run_line draft_rule draft_with (run_draft_of []) lines >>= finished)
 unfolding run_plan
 run_plan_is text lines is =
-    rw is (sym (ap (λ (told : Result RunDraft PlanError). told >>= finished) (drafted_meant run_line draft_rule draft_with run_rule run_draft_of rule_same line_more lines [])
+    rw is (sym (ap (λ (told : Result RunDraft Broken). told >>= finished) (drafted_meant run_line draft_rule draft_with run_rule run_draft_of rule_same line_more lines [])
     ∙ finish_meant (meanings run_line run_rule [] lines)))
 
 -- a text whose first line is refused, one with a line that breaks a rule, and one that is read

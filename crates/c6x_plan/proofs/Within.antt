@@ -9,8 +9,8 @@ use Rattle.c6x_plan.specs.declared.link_draft.LinkDraft.{LinkDraft}
 use Rattle.c6x_plan.specs.declared.link_line.LinkLine.{LinkLine}
 use Rattle.c6x_plan.specs.declared.link_line.LinkLine.TheVariants.{Output, Index, Table, Entry, Soname, Needed, Object}
 use Rattle.c6x_plan.specs.declared.link_plan.LinkPlan.{LinkPlan}
-use Rattle.c6x_plan.specs.declared.plan_rule.PlanRule.{PlanRule}
-use Rattle.c6x_plan.specs.declared.plan_rule.PlanRule.TheVariants.{Name, Count}
+use Rattle.c6x_plan.specs.PlanRules.{PlanRule}
+use Rattle.c6x_plan.specs.PlanRules.{Name, Count}
 use Rattle.c6x_plan.specs.Limits.{IsLinkPlan, IsShortName}
 use Rattle.c6x_plan.specs.Lines.{Said}
 use Rattle.c6x_plan.specs.LinkDrafts.{draft_rule, draft_with, link_draft_of, plan_drafted}

@@ -1,4 +1,5 @@
 pub mod Words
+pub mod PlanRules
 pub mod Lines
 pub mod TextLines
 pub mod Rules

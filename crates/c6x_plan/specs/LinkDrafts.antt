@@ -7,9 +7,9 @@ use Rattle.c6x_plan.specs.declared.link_draft.LinkDraft.{LinkDraft}
 use Rattle.c6x_plan.specs.declared.link_plan.LinkPlan.{LinkPlan}
 use Rattle.c6x_plan.specs.declared.link_line.LinkLine.{LinkLine}
 use Rattle.c6x_plan.specs.declared.link_line.LinkLine.TheVariants.{Output, Index, Table, Entry, Soname, Needed, Object}
-use Rattle.c6x_plan.specs.declared.plan_error.PlanError.{PlanError}
-use Rattle.c6x_plan.specs.declared.plan_rule.PlanRule.{PlanRule}
-use Rattle.c6x_plan.specs.declared.plan_rule.PlanRule.TheVariants.{Name}
+use Rattle.c6x_plan.specs.PlanRules.{Broken}
+use Rattle.c6x_plan.specs.PlanRules.{PlanRule}
+use Rattle.c6x_plan.specs.PlanRules.{Name}
 use Rattle.c6x_plan.specs.LinkPlans.{entry_in, index_in, needed_in, object_in, output_in, passes, soname_in, table_in, with_object}
 use Rattle.c6x_plan.specs.Rules.{first_given, once}
 
@@ -58,5 +58,5 @@ plan_drafted draft = record {
   objects = draft.objects;
 }
 
-unfoldable pub finished : LinkDraft → Result LinkPlan PlanError
+unfoldable pub finished : LinkDraft → Result LinkPlan Broken
 finished draft = with_object (plan_drafted draft)

@@ -8,10 +8,9 @@ use Rattle.c6x_plan.specs.declared.limits.TheConstants.{MOST_NEEDED, MOST_OBJECT
 use Rattle.c6x_plan.specs.declared.link_line.LinkLine.{LinkLine}
 use Rattle.c6x_plan.specs.declared.link_line.LinkLine.TheVariants.{Output, Index, Table, Entry, Soname, Needed, Object}
 use Rattle.c6x_plan.specs.declared.link_plan.LinkPlan.{LinkPlan}
-use Rattle.c6x_plan.specs.declared.plan_error.PlanError.{PlanError}
-use Rattle.c6x_plan.specs.declared.plan_error.PlanError.TheVariants.{Count as CountAt}
-use Rattle.c6x_plan.specs.declared.plan_rule.PlanRule.{PlanRule}
-use Rattle.c6x_plan.specs.declared.plan_rule.PlanRule.TheVariants.{Name, Count}
+use Rattle.c6x_plan.specs.PlanRules.{Broken, broken_at, Count as CountRule}
+use Rattle.c6x_plan.specs.PlanRules.{PlanRule}
+use Rattle.c6x_plan.specs.PlanRules.{Name, Count}
 use Rattle.c6x_plan.specs.Lines.{said_lines}
 use Rattle.c6x_plan.specs.Rules.{behind_first, first_given, meanings, once}
 use Rattle.c6x_plan.specs.Words.{is_name, number_in}
@@ -104,11 +103,11 @@ link_plan_of lines = record {
 }
 
 -- A plan names an object.
-abbrev pub with_object : LinkPlan → Result LinkPlan PlanError
-with_object plan = if length plan.objects == 0 then Err (CountAt 0) else Ok plan
+abbrev pub with_object : LinkPlan → Result LinkPlan Broken
+with_object plan = if length plan.objects == 0 then Err (broken_at 0 CountRule) else Ok plan
 
 -- The link plan of a text, or the first rule that the text breaks, by line and then by number.
-unfoldable pub link_plan : List ℕ → Result LinkPlan PlanError
+unfoldable pub link_plan : List ℕ → Result LinkPlan Broken
 link_plan text = do
   lines ← behind_first (codes "c6x-link") (said_lines 0 text)
   meant ← meanings link_line link_rule [] lines

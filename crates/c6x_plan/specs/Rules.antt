@@ -4,15 +4,8 @@ use Rattle.std.specs.Str.{bytes_eq}
 use Rattle.c6x_spec.specs.Results.{◌>>=◌}
 use Rattle.c6x_plan.specs.declared.plan_error.PlanError.{PlanError}
 use Rattle.c6x_plan.specs.declared.plan_error.PlanError.TheVariants.{Syntax as SyntaxAt, Name as NameAt, Count as CountAt, NoMemory}
-use Rattle.c6x_plan.specs.declared.plan_rule.PlanRule.{PlanRule}
-use Rattle.c6x_plan.specs.declared.plan_rule.PlanRule.TheVariants.{Syntax, Name, Count}
+use Rattle.c6x_plan.specs.PlanRules.{Broken, PlanRule, Syntax, Name, Count, broken_at}
 use Rattle.c6x_plan.specs.Lines.{Said}
-
--- A rule that is broken on a line.
-abbrev pub broken_at : ℕ → PlanRule → PlanError
-broken_at line Syntax = SyntaxAt line
-broken_at line Name = NameAt line
-broken_at line Count = CountAt line
 
 -- The first line of a text: the format's name and version 1.
 abbrev pub is_first : List ℕ → List (List ℕ) → Bool
@@ -20,13 +13,13 @@ is_first format (name ∷ version ∷ []) = bytes_eq name format && bytes_eq ver
 is_first format _ = false
 
 -- The lines behind the first, which names the format. A text without a first line is refused at line 0.
-unfoldable pub behind_first : List ℕ → List Said → Result (List Said) PlanError
-behind_first format [] = Err (SyntaxAt 0)
-behind_first format (first ∷ lines) = if is_first format first.words then Ok lines else Err (SyntaxAt first.line)
+unfoldable pub behind_first : List ℕ → List Said → Result (List Said) Broken
+behind_first format [] = Err (broken_at 0 Syntax)
+behind_first format (first ∷ lines) = if is_first format first.words then Ok lines else Err (broken_at first.line Syntax)
 
 -- What a line means behind lines that mean these, or the rule that it breaks there: Syntax where it has no form.
-abbrev pub ruled : {L : Type 0} → ℕ → Option L → Option PlanRule → Result L PlanError
-ruled number None rule = Err (SyntaxAt number)
+abbrev pub ruled : {L : Type 0} → ℕ → Option L → Option PlanRule → Result L Broken
+ruled number None rule = Err (broken_at number Syntax)
 ruled number (Some meaning) None = Ok meaning
 ruled number (Some meaning) (Some rule) = Err (broken_at number rule)
 
@@ -36,7 +29,7 @@ rule_of rule (Some meaning) = rule meaning
 
 -- What lines mean, the earlier ones first, or the first rule that one breaks. `form` says what a line's words mean, and
 -- `rule` which rule a line breaks behind earlier ones.
-abbrev pub meanings : {L : Type 0} → (List (List ℕ) → Option L) → (List L → L → Option PlanRule) → List L → List Said → Result (List L) PlanError
+abbrev pub meanings : {L : Type 0} → (List (List ℕ) → Option L) → (List L → L → Option PlanRule) → List L → List Said → Result (List L) Broken
 meanings form rule earlier [] = Ok earlier
 meanings form rule earlier (line ∷ lines) =
     ruled line.line (form line.words) (rule_of (rule earlier) (form line.words)) >>= λ meaning. meanings form rule (earlier ++ meaning ∷ []) lines
@@ -55,33 +48,37 @@ abbrev pub once : {X : Type 0} → Option X → Option PlanRule
 once slot = if is_some slot then Some Syntax else None
 
 -- An answer, seen by `view`, is what the text says, or its first broken rule. Want of memory is free.
-abbrev pub ReadsBy : {A B : Type 0} → (A → B) → Result A PlanError → Result B PlanError → Type 0
+abbrev pub ReadsBy : {A B : Type 0} → (A → B) → Result A PlanError → Result B Broken → Type 0
 ReadsBy view (Ok plan) told = told ≡ Ok (view plan)
 ReadsBy view (Err NoMemory) told = Unit {0}
-ReadsBy view (Err broken) told = told ≡ Err broken
+ReadsBy view (Err (SyntaxAt line)) told = told ≡ Err (broken_at line Syntax)
+ReadsBy view (Err (NameAt line)) told = told ≡ Err (broken_at line Name)
+ReadsBy view (Err (CountAt line)) told = told ≡ Err (broken_at line Count)
 
-abbrev pub Reads : {A : Type 0} → Result A PlanError → Result A PlanError → Type 0
+abbrev pub Reads : {A : Type 0} → Result A PlanError → Result A Broken → Type 0
 Reads result told = ReadsBy (λ plan. plan) result told
 
 -- What is kept of lines so far, with one more line, or the rule that it breaks: `rule` and `with` say both.
-abbrev pub drafted_by : {D L : Type 0} → (D → L → D) → D → Result L PlanError → Result D PlanError
+abbrev pub drafted_by : {D L : Type 0} → (D → L → D) → D → Result L Broken → Result D Broken
 drafted_by with draft (Ok meaning) = Ok (with draft meaning)
 drafted_by with draft (Err broken) = Err broken
 
-abbrev pub line_drafted : {D L : Type 0} → (List (List ℕ) → Option L) → (D → L → Option PlanRule) → (D → L → D) → D → Said → Result D PlanError
+abbrev pub line_drafted : {D L : Type 0} → (List (List ℕ) → Option L) → (D → L → Option PlanRule) → (D → L → D) → D → Said → Result D Broken
 line_drafted form rule with draft line =
     drafted_by with draft (ruled line.line (form line.words) (rule_of (rule draft) (form line.words)))
 
 -- The same of more lines, one after the other.
-abbrev pub drafted : {D L : Type 0} → (List (List ℕ) → Option L) → (D → L → Option PlanRule) → (D → L → D) → D → List Said → Result D PlanError
+abbrev pub drafted : {D L : Type 0} → (List (List ℕ) → Option L) → (D → L → Option PlanRule) → (D → L → D) → D → List Said → Result D Broken
 drafted form rule with draft [] = Ok draft
 drafted form rule with draft (line ∷ lines) = line_drafted form rule with draft line >>= λ more. drafted form rule with more lines
 
 -- A call that changes what is kept: it is then what is told, or the call answers the rule that is broken.
-abbrev pub Drafts : {D A : Type 0} → Result A PlanError → D → Result D PlanError → Type 0
+abbrev pub Drafts : {D A : Type 0} → Result A PlanError → D → Result D Broken → Type 0
 Drafts (Ok done) draft told = told ≡ Ok draft
 Drafts (Err NoMemory) draft told = Unit {0}
-Drafts (Err broken) draft told = told ≡ Err broken
+Drafts (Err (SyntaxAt line)) draft told = told ≡ Err (broken_at line Syntax)
+Drafts (Err (NameAt line)) draft told = told ≡ Err (broken_at line Name)
+Drafts (Err (CountAt line)) draft told = told ≡ Err (broken_at line Count)
 
 -- A slot is set where nothing was in it; else the line says again what was said.
 abbrev pub SetsOnce : {A X : Type 0} → Result A PlanError → Option X → Option X → X → ℕ → Type 0

@@ -2,8 +2,8 @@
 use Rattle.std.specs.Prelude.{not, ◌||◌, nat_le, unwrap_or, ◌++◌, map, List, [], ◌∷◌, length, Option, Some, Result}
 use Rattle.std.specs.List.{filter_map}
 use Rattle.c6x_plan.specs.declared.limits.TheConstants.{MOST_MODULES, MOST_PROCESSES, QUANTUM}
-use Rattle.c6x_plan.specs.declared.plan_error.PlanError.{PlanError}
-use Rattle.c6x_plan.specs.declared.plan_rule.PlanRule.{PlanRule}
+use Rattle.c6x_plan.specs.PlanRules.{Broken}
+use Rattle.c6x_plan.specs.PlanRules.{PlanRule}
 use Rattle.c6x_plan.specs.declared.run_draft.RunDraft.{RunDraft}
 use Rattle.c6x_plan.specs.declared.run_line.RunLine.{RunLine}
 use Rattle.c6x_plan.specs.declared.run_line.RunLine.TheVariants.{Quantum, Module, Process}
@@ -42,5 +42,5 @@ plan_drafted draft = record {
   processes = map (process_of draft.modules) draft.processes;
 }
 
-unfoldable pub finished : RunDraft → Result RunPlan PlanError
+unfoldable pub finished : RunDraft → Result RunPlan Broken
 finished draft = with_process (plan_drafted draft)

@@ -7,8 +7,8 @@ use Rattle.c6x_spec.specs.Options.{◌>>=◌}
 use Rattle.c6x_plan.specs.declared.limits.TheConstants.{MOST_MODULES, MOST_PROCESSES, MOST_CYCLES, MOST_QUANTUM, LEAST_STACK, MOST_STACK}
 use Rattle.c6x_plan.specs.declared.line.Sizes.{Sizes}
 use Rattle.c6x_plan.specs.declared.module_plan.ModulePlan.{ModulePlan}
-use Rattle.c6x_plan.specs.declared.plan_rule.PlanRule.{PlanRule}
-use Rattle.c6x_plan.specs.declared.plan_rule.PlanRule.TheVariants.{Name, Count}
+use Rattle.c6x_plan.specs.PlanRules.{PlanRule}
+use Rattle.c6x_plan.specs.PlanRules.{Name, Count}
 use Rattle.c6x_plan.specs.declared.run_line.ProcessLine.{ProcessLine}
 use Rattle.c6x_plan.specs.declared.run_line.RunLine.{RunLine}
 use Rattle.c6x_plan.specs.declared.run_line.RunLine.TheVariants.{Quantum, Module, Process}

@@ -5,8 +5,7 @@ use Rattle.std.specs.Str.{bytes_eq}
 use Rattle.c6x_spec.specs.Results.{◌>>=◌}
 use Rattle.c6x_plan.specs.declared.limits.TheConstants.{QUANTUM}
 use Rattle.c6x_plan.specs.declared.module_plan.ModulePlan.{ModulePlan}
-use Rattle.c6x_plan.specs.declared.plan_error.PlanError.{PlanError}
-use Rattle.c6x_plan.specs.declared.plan_error.PlanError.TheVariants.{Count as CountAt}
+use Rattle.c6x_plan.specs.PlanRules.{Broken, broken_at, Count as CountRule}
 use Rattle.c6x_plan.specs.declared.process_plan.ProcessPlan.{ProcessPlan}
 use Rattle.c6x_plan.specs.declared.run_line.ProcessLine.{ProcessLine}
 use Rattle.c6x_plan.specs.declared.run_line.RunLine.{RunLine}
@@ -37,11 +36,11 @@ run_plan_of lines = record {
 }
 
 -- A plan has a process.
-abbrev pub with_process : RunPlan → Result RunPlan PlanError
-with_process plan = if length plan.processes == 0 then Err (CountAt 0) else Ok plan
+abbrev pub with_process : RunPlan → Result RunPlan Broken
+with_process plan = if length plan.processes == 0 then Err (broken_at 0 CountRule) else Ok plan
 
 -- The plan of a text, or the first rule that the text breaks, by line and then by number.
-unfoldable pub run_plan : List ℕ → Result RunPlan PlanError
+unfoldable pub run_plan : List ℕ → Result RunPlan Broken
 run_plan text = do
   lines ← behind_first (codes "c6x-plan") (said_lines 0 text)
   meant ← meanings run_line run_rule [] lines

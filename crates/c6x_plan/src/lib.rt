@@ -18,7 +18,6 @@ mod number;
 mod plain;
 mod plan;
 mod plan_error;
-mod plan_rule;
 mod process_plan;
 mod run;
 mod run_draft;
