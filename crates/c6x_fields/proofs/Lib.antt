@@ -1,3 +1,4 @@
 pub mod Steps
 pub mod RowFacts
 pub mod Held
+pub mod Whole

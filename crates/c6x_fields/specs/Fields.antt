@@ -1,6 +1,7 @@
 -- Bytes in which fields are set, bit by bit (SPRAB89, "Relocation").
-use Rattle.std.specs.Prelude.{◌≡◌, ℕ, ◌+◌, ◌-◌, ◌^◌, ◌<◌, ◌≤◌, ◌&&◌, nat_le, nat_lt, List, [], ◌∷◌, ◌++◌, Option, None, Some, length, slice_index, if◌then◌else◌}
+use Rattle.std.specs.Prelude.{◌≡◌, ℕ, ◌+◌, ◌-◌, ◌*◌, ◌^◌, ◌<◌, ◌≤◌, ◌&&◌, nat_le, nat_lt, List, [], ◌∷◌, ◌++◌, Option, None, Some, length, map, slice_index, if◌then◌else◌}
 use Rattle.std.specs.Int.{bit_at}
+use Rattle.std.specs.List.{range_with_len}
 use Rattle.c6x_spec.specs.Numbers.{bit_in}
 use Rattle.c6x_reloc.specs.Fields.{first_bit}
 use Rattle.c6x_reloc.specs.Table.{row_of}
@@ -52,3 +53,19 @@ pub record IsLast (len : ℕ) (fields : List Field) (f : Field) : Type 0 where
   pub split : fields ≡ before ++ f ∷ after
   pub within : f.place + (row_of f.kind).size ≤ len
   pub alone : (i : ℕ) → i < width f → last_bit after (lowest f + i) ≡ None
+
+-- The bytes whose bits are those, as a list.
+abbrev pub patched_bit : List ℕ → List Field → ℕ → ℕ
+patched_bit old fields at = or_bit (last_bit fields at) (bit_in old at)
+
+abbrev pub byte_of_bits : (ℕ → ℕ) → ℕ → ℕ
+byte_of_bits bit at =
+    bit at + 2 * bit (at + 1) + 4 * bit (at + 2) + 8 * bit (at + 3) + 16 * bit (at + 4) + 32 * bit (at + 5)
+    + 64 * bit (at + 6)
+    + 128 * bit (at + 7)
+
+abbrev pub patched_byte : List ℕ → List Field → ℕ → ℕ
+patched_byte old fields number = byte_of_bits (patched_bit old fields) (8 * number)
+
+unfoldable pub patched : List ℕ → List Field → List ℕ
+patched old fields = map (patched_byte old fields) (range_with_len 0 (length old))

@@ -1,9 +1,14 @@
-ghost use Rattle.std.specs.Prelude.{ℕ, List, length};
-ghost use Rattle.c6x_fields.specs.Fields.{AreBytes, IsLast, IsPatchedBy};
+ghost use Rattle.std.specs.Prelude.{◌≡◌, ℕ, List, length};
+ghost use Rattle.c6x_fields.specs.Fields.{AreBytes, IsLast, IsPatchedBy, patched};
 ghost use Rattle.c6x_fields.specs.declared.field.Field.{Field};
 ghost use Rattle.c6x_reloc.specs.Fields.{HoldsValue};
 
 /// A field whose bits no later field has holds its value in the patched bytes.
 pub fn the_last_value_holds()
     ensures { (old new : List ℕ) (fields : List Field) (field : Field) → AreBytes new → IsPatchedBy old fields new → IsLast (length new) fields field → HoldsValue new field.place field.kind field.value }
+{}
+
+/// The patched bytes are one list.
+pub fn patched_bytes_are_one_list()
+    ensures { (old new : List ℕ) (fields : List Field) → AreBytes new → IsPatchedBy old fields new → new ≡ patched old fields }
 {}

@@ -9,5 +9,5 @@ mod laws;
 mod setting;
 
 pub use field::Field;
-pub use laws::the_last_value_holds;
+pub use laws::{patched_bytes_are_one_list, the_last_value_holds};
 pub use setting::{set_field, set_fields};

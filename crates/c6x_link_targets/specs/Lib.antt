@@ -1,0 +1,4 @@
+pub mod Working
+pub mod Addresses
+pub mod Targets
+pub mod LinkEntries
