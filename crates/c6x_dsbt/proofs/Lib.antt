@@ -1,2 +1,3 @@
+pub mod FewNeeds
 pub mod Folded
 pub mod Listed
