@@ -4,7 +4,7 @@ use Rattle.std.specs.Prelude.{ℕ, ◌==◌, Bool, List, [], ◌∷◌, ◌++◌
 use Rattle.c6x_spec.specs.Firsts.{◌<|>◌, first_along}
 use Rattle.c6x_spec.specs.Results.{◌>>=◌}
 use Rattle.c6x_elf.specs.Abi.{DT_NEEDED, DT_DSBT_BASE, DT_DSBT_SIZE, DT_DSBT_INDEX}
-use Rattle.c6x_elf.specs.Types.{Dyn, Symbol}
+use Rattle.c6x_elf.specs.Types.{Dyn, Rela, Symbol}
 use Rattle.c6x_elf.specs.declared.file.File.{File}
 use Rattle.c6x_elf.specs.declared.segment.Segment.{Segment}
 use Rattle.c6x_module.specs.declared.symbol.DynSymbol.{DynSymbol}
@@ -47,16 +47,23 @@ module_of name file two ds t = record {
   table = tag_or 0 DT_DSBT_BASE ds;
 }
 
--- The rules behind the tables.
-unfoldable pub relocs_refusal : File → Segment × Segment → List Dyn → Tables → Option Refusal
-relocs_refusal file two ds t =
-    first_along kind_refusal (t.relas ++ t.jumps)
-    <|> fields_refusal two.1 (tag_or 0 DT_DSBT_BASE ds) (tag_or 0 DT_DSBT_SIZE ds) (fields_of (t.relas ++ t.jumps))
+-- The rules behind the tables, over all entries of relocation.
+unfoldable pub relocs_refusal : File → Segment × Segment → List Dyn → List Rela → Option Refusal
+relocs_refusal file two ds relas =
+    first_along kind_refusal relas
+    <|> fields_refusal two.1 (tag_or 0 DT_DSBT_BASE ds) (tag_or 0 DT_DSBT_SIZE ds) (fields_of relas)
     <|> entry_refusal two.0 (tag_or 0 DT_DSBT_INDEX ds) file.entry
+
+-- What stands behind the tables, and behind the two ranges.
+unfoldable pub tables_then : List ℕ → File → Segment × Segment → List Dyn → Tables → Result Module Refusal
+tables_then name file two ds t =
+    kept (tables_refusal ds t <|> relocs_refusal file two ds (t.relas ++ t.jumps)) (Ok (module_of name file two ds t))
+
+unfoldable pub ranges_then : Bool → List ℕ → File → Segment × Segment → List Dyn → Result Module Refusal
+ranges_then big name file two ds =
+    kept (shape_refusal two.0 two.1 ds) (tables_in big two.0 two.1 ds) >>= λ t. tables_then name file two ds t
 
 unfoldable pub module_in : Bool → List ℕ → File → Result Module Refusal
 module_in big name file =
     entries_in big file.segments >>= λ ds.
-    kept (dsbt_refusal ds) (ranges_in file.segments) >>= λ two.
-    kept (shape_refusal two.0 two.1 ds) (tables_in big two.0 two.1 ds) >>= λ t.
-    kept (tables_refusal ds t <|> relocs_refusal file two ds t) (Ok (module_of name file two ds t))
+    kept (dsbt_refusal ds) (ranges_in file.segments) >>= λ two. ranges_then big name file two ds

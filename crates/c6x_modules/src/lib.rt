@@ -2,5 +2,9 @@
 #![tactic(auto)]
 
 mod modules;
+mod ranges;
+mod reading;
+mod survey;
 
 pub use modules::{MOST_OWNED_MODULES, Modules};
+pub use reading::read_module;
