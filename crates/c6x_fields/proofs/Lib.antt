@@ -2,3 +2,4 @@ pub mod Steps
 pub mod RowFacts
 pub mod Held
 pub mod Whole
+pub mod Bytes

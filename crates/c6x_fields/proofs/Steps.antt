@@ -47,7 +47,7 @@ or_else_assoc : (a b c : Option ℕ) → or_else (or_else a b) c ≡ or_else a (
 or_else_assoc None b c = refl
 or_else_assoc (Some bit) b c = refl
 
-or_bit_else : (a b : Option ℕ) (was : ℕ) → or_bit a (or_bit b was) ≡ or_bit (or_else a b) was
+pub or_bit_else : (a b : Option ℕ) (was : ℕ) → or_bit a (or_bit b was) ≡ or_bit (or_else a b) was
 or_bit_else None b was = refl
 or_bit_else (Some bit) b was = refl
 

@@ -12,3 +12,8 @@ pub fn the_last_value_holds()
 pub fn patched_bytes_are_one_list()
     ensures { (old new : List ℕ) (fields : List Field) → AreBytes new → IsPatchedBy old fields new → new ≡ patched old fields }
 {}
+
+/// A field of a list whose bits no later one has holds its value in the bytes patched by the list.
+pub fn the_last_value_holds_in_the_list()
+    ensures { (old : List ℕ) (fields : List Field) (field : Field) → IsLast (length old) fields field → HoldsValue (patched old fields) field.place field.kind field.value }
+{}

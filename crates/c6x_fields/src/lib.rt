@@ -9,5 +9,7 @@ mod laws;
 mod setting;
 
 pub use field::Field;
-pub use laws::{patched_bytes_are_one_list, the_last_value_holds};
+pub use laws::{
+    patched_bytes_are_one_list, the_last_value_holds, the_last_value_holds_in_the_list,
+};
 pub use setting::{set_field, set_fields};
