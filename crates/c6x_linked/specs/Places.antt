@@ -1,7 +1,7 @@
 -- Where the tables of a linked module stand, in bytes from the start of its text: behind the sections and stubs, at the
 -- next multiple of 4, the hash table, the dynamic symbols and the strings; at the next multiple of 4 the relocation
 -- entries of DT_RELA, those of DT_JMPREL and the dynamic entries (this project's layout of SPRAB89's tables).
-use Rattle.std.specs.Prelude.{ℕ, ◌+◌, ◌*◌, ◌==◌, if◌then◌else◌}
+use Rattle.std.specs.Prelude.{ℕ, ◌+◌, ◌*◌, ◌≤◌, ◌==◌, if◌then◌else◌}
 use Rattle.c6x_spec.specs.Rounded.{rounded}
 use Rattle.c6x_linked.specs.declared.counts.Counts.{Counts}
 use Rattle.c6x_linked.specs.declared.places.Places.{Places}
@@ -42,3 +42,12 @@ places_of c = record {
   dynamic = dynamic_at c;
   end = text_size c;
 }
+
+-- Each table stands behind the one in front of it.
+pub record AreInOrder (p : Places) : Type 0 where
+  pub hash : p.hash ≤ p.symbols
+  pub symbols : p.symbols ≤ p.strings
+  pub strings : p.strings ≤ p.relas
+  pub relas : p.relas ≤ p.jumps
+  pub jumps : p.jumps ≤ p.dynamic
+  pub dynamic : p.dynamic ≤ p.end

@@ -1,7 +1,8 @@
 -- What the limits of a link give.
-use Rattle.std.specs.Prelude.{ℕ, ◌≤◌, length}
+use Rattle.std.specs.Prelude.{◌≤◌, length}
 use Rattle.c6x_linked.specs.Places.{text_size}
 use Rattle.c6x_linked.specs.Tables.{counts_of}
+use Rattle.c6x_linked.specs.declared.counts.Counts.{Counts}
 use Rattle.c6x_linked.specs.declared.limits.TheConstants.{MOST_ALIGN, MOST_SEGMENT_BYTES}
 use Rattle.c6x_linked.specs.declared.parts.Parts.{Parts}
 
@@ -12,3 +13,12 @@ pub record AreSized (p : Parts) : Type 0 where
   pub memory : p.memory ≤ MOST_SEGMENT_BYTES
   pub align : p.align ≤ MOST_ALIGN
   pub data_align : p.data_align ≤ MOST_ALIGN
+
+-- A text within its limit holds no more of anything.
+pub record AreFew (c : Counts) : Type 0 where
+  pub code : c.code ≤ MOST_SEGMENT_BYTES
+  pub symbols : c.symbols ≤ MOST_SEGMENT_BYTES
+  pub strings : c.strings ≤ MOST_SEGMENT_BYTES
+  pub relas : c.relas ≤ MOST_SEGMENT_BYTES
+  pub jumps : c.jumps ≤ MOST_SEGMENT_BYTES
+  pub named : c.named ≤ MOST_SEGMENT_BYTES

@@ -1,9 +1,10 @@
 -- The tables of a linked module (gABI chapter 5, "Dynamic Linking"; SPRAB89, "Dynamic Linking").
-use Rattle.std.specs.Prelude.{ℕ, ◌+◌, ◌*◌, ◌==◌, Bool, false, List, [], ◌∷◌, ◌++◌, length, map, Option, None, Some, if◌then◌else◌}
-use Rattle.c6x_elf.specs.Abi.{DT_DSBT_BASE, DT_DSBT_INDEX, DT_DSBT_SIZE, DT_HASH, DT_JMPREL, DT_NEEDED, DT_NULL, DT_PLTREL, DT_PLTRELSZ, DT_RELA, DT_RELAENT, DT_RELASZ, DT_SONAME, DT_STRSZ, DT_STRTAB, DT_SYMENT, DT_SYMTAB, STT_SECTION}
-use Rattle.c6x_elf.specs.Names.{name_table}
-use Rattle.c6x_elf.specs.Types.{Dyn, Rela, Symbol}
-use Rattle.c6x_linked.specs.Places.{dynamic_at, hash_at, jumps_at, relas_at, strings_at, symbols_at}
+use Rattle.std.specs.Prelude.{ℕ, ◌+◌, ◌*◌, ◌==◌, List, [], ◌∷◌, ◌++◌, length, map, Option, None, Some, if◌then◌else◌}
+use Rattle.std.specs.List.{flat_map}
+use Rattle.c6x_elf.specs.Abi.{DT_DSBT_BASE, DT_DSBT_INDEX, DT_DSBT_SIZE, DT_HASH, DT_JMPREL, DT_NEEDED, DT_PLTREL, DT_PLTRELSZ, DT_RELA, DT_RELAENT, DT_RELASZ, DT_SONAME, DT_STRSZ, DT_STRTAB, DT_SYMENT, DT_SYMTAB, STT_SECTION}
+use Rattle.c6x_elf.specs.Names.{name_row, name_table}
+use Rattle.c6x_elf.specs.Types.{Dyn, Symbol}
+use Rattle.c6x_linked.specs.Places.{hash_at, jumps_at, relas_at, strings_at, symbols_at}
 use Rattle.c6x_linked.specs.declared.counts.Counts.{Counts}
 use Rattle.c6x_linked.specs.declared.limits.TheConstants.{TEXT_START}
 use Rattle.c6x_linked.specs.declared.parts.Parts.{Parts}
@@ -25,6 +26,10 @@ names_of p = shared_names p.shared ++ (if_named p.soname ++ p.needed)
 
 unfoldable pub strings_of : Parts → List ℕ
 strings_of p = name_table (names_of p)
+
+-- The bytes of names, each ended by a zero byte.
+abbrev pub name_rows : List (List ℕ) → List ℕ
+name_rows names = flat_map name_row names
 
 -- The offset of each of some names in the strings, the first one's being this, and the offset behind them.
 abbrev pub name_places : ℕ → List (List ℕ) → List ℕ

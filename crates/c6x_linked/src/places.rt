@@ -1,5 +1,5 @@
 ghost use Rattle.std.specs.Prelude.{◌≡◌, ◌^◌, ◌≤◌};
-ghost use Rattle.c6x_linked.specs.Places.{entry_count, places_of};
+ghost use Rattle.c6x_linked.specs.Places.{AreInOrder, entry_count, places_of};
 
 use crate::counts::Counts;
 use c6x_base::least_multiple;
@@ -38,7 +38,8 @@ pub fn places_of(counts: &Counts) -> Places
     requires relas { counts.now.relas ≤ 2 ^ 40 }
     requires jumps { counts.now.jumps ≤ 2 ^ 40 }
     requires named { counts.now.named ≤ 2 ^ 40 }
-    ensures { result ≡ places_of counts.now }
+    ensures value { result ≡ places_of counts.now }
+    ensures order { AreInOrder result }
 {
     let hash = least_multiple(counts.code, 4);
     let symbols = hash + 4 * (2 + 2 * counts.symbols);
