@@ -1,0 +1,4 @@
+pub mod Aligned
+pub mod CommonsLaid
+pub mod Laid
+pub mod Rows

@@ -1,9 +1,16 @@
 //! The addresses of a linked file (SPRAB89, "Dynamic Linking"; where its parts lie is this project's own).
 #![tactic(auto)]
 
+mod aligning;
+mod commons;
+mod ends;
+mod group;
 mod layout;
 pub mod limits;
 mod place;
+mod placing;
+mod regions;
 
 pub use layout::Layout;
 pub use place::Place;
+pub use regions::{Regions, regions_of};
