@@ -1,6 +1,6 @@
 ghost use Rattle.std.specs.Prelude.{◌≡◌, ◌<◌, ◌≤◌, ◌^◌, length, IfOk};
 ghost use Rattle.c6x_plan.specs.LinkPlans.{link_plan};
-ghost use Rattle.c6x_plan.specs.Limits.{IsLinkPlan};
+ghost use Rattle.c6x_plan.specs.Limits.{IsLinkPlan, IsRunPlan};
 ghost use Rattle.c6x_plan.specs.RunPlans.{run_plan};
 ghost use Rattle.c6x_cli_inputs.specs.Plans.{link_plan_steps, or_bad_plan, run_plan_steps};
 ghost use Rattle.c6x_cli_inputs.specs.Refusing.{RefusesPlan};
@@ -43,7 +43,8 @@ pub fn fetch_plan<S: Shelf>(
     shelf: &mut S,
     name: &Name,
 ) -> Result<RunPlan, PrepareError>
-    ensures { Prepares (λ plan. plan) (λ told. run_plan_steps told name.now) (S.seen shelf.old) (S.seen shelf.new) result }
+    ensures prepares { Prepares (λ plan. plan) (λ told. run_plan_steps told name.now) (S.seen shelf.old) (S.seen shelf.new) result }
+    ensures within { IfOk result IsRunPlan }
 {
     let text = fetch_whole(alloc, shelf, name)?;
     plan_of(alloc, name, &text)
@@ -52,7 +53,8 @@ pub fn fetch_plan<S: Shelf>(
 /// The plan of a text, or the first rule that the text breaks.
 fn plan_of(alloc: Global, name: &Name, text: &[u8]) -> Result<RunPlan, PrepareError>
     requires { length text.now < 2 ^ 32 }
-    ensures { Decides (λ plan. plan) (or_bad_plan name.now (run_plan text.now)) result }
+    ensures decides { Decides (λ plan. plan) (or_bad_plan name.now (run_plan text.now)) result }
+    ensures within { IfOk result IsRunPlan }
 {
     match read_plan(alloc, text) {
         Ok(plan) => Ok(plan),

@@ -7,3 +7,4 @@ pub mod Places
 pub mod LinkDrafting
 pub mod Within
 pub mod RunDrafting
+pub mod RunWithin

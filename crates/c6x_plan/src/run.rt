@@ -1,7 +1,8 @@
 ghost use Rattle.std.specs.Prelude.{◌≡◌, ◌^◌, ◌<◌, ◌≤◌, length, [], map, IfOk, IfSome};
 ghost use Rattle.std.specs.List.{position};
 ghost use Rattle.std.specs.Str.{bytes_eq};
-ghost use Rattle.c6x_plan.specs.RunDrafts.{draft_rule, draft_with, finished, run_draft_of};
+ghost use Rattle.c6x_plan.specs.Limits.{IsRunPlan};
+ghost use Rattle.c6x_plan.specs.RunDrafts.{draft_rule, draft_with, finished, plan_drafted, run_draft_of};
 ghost use Rattle.c6x_plan.specs.RunLines.{run_line};
 ghost use Rattle.c6x_plan.specs.RunPlans.{number_of, process_of, run_plan};
 ghost use Rattle.c6x_plan.specs.Rules.{Reads, drafted};
@@ -31,7 +32,8 @@ use std::alloc::{AllocError, Global};
 #[tactic(auto, using(crate::proofs::RunDrafting::first_refused, crate::proofs::RunDrafting::line_refused, crate::proofs::RunDrafting::few_modules))]
 pub fn read_plan(alloc: Global, text: &[u8]) -> Result<RunPlan, PlanError>
     requires { length text.now < 2 ^ 32 }
-    ensures { Reads result (run_plan text.now) }
+    ensures reads { Reads result (run_plan text.now) }
+    ensures within { IfOk result IsRunPlan }
 {
     let lines = lines_behind(alloc, b"c6x-plan", text)?;
     let draft = drafted(alloc, lines)?;
@@ -53,7 +55,8 @@ fn drafted(alloc: Global, lines: Lines<'_>) -> Result<RunDraft, PlanError>
 #[tactic(auto, unfolding(crate::specs::RunDrafts::finished))]
 fn finished(alloc: Global, draft: RunDraft) -> Result<RunPlan, PlanError>
     requires { length draft.modules ≤ 32 }
-    ensures { Reads result (finished draft) }
+    ensures reads { Reads result (finished draft) }
+    ensures value { IfOk result (λ plan. plan ≡ plan_drafted draft) }
 {
     if draft.processes.as_slice().is_empty() {
         return Err(PlanError::Count { line: 0 });
