@@ -1,5 +1,5 @@
 -- A packet goes from an instruction without `||` to the last one with it (SPRU732, "Parallel Operations").
-use Rattle.std.specs.Prelude.{ℕ, ◌+◌, ◌-◌, ◌%◌, ◌==◌, nat_le, Bool, true, false, not, ◌&&◌, if◌then◌else◌, List, [], ◌∷◌, ◌++◌, length, map, take, slice_index, Option, Some, None, is_ok}
+use Rattle.std.specs.Prelude.{ℕ, ◌-◌, ◌%◌, nat_le, Bool, true, false, not, ◌&&◌, if◌then◌else◌, List, [], ◌∷◌, ◌++◌, length, map, take, slice_index, Option, Some, None, is_ok}
 use Rattle.c6x_packet.specs.Packets.{split_of}
 use Rattle.c6x_asm_object.specs.Sections.{odd}
 use Rattle.c6x_asm_object.specs.declared.instr_word.InstrWord.{InstrWord}

@@ -11,7 +11,7 @@ use std::alloc::Global;
 
 /// The object file of a text, which is tidy, or the first rule that the text breaks: A1 before all
 /// others, then that of the lowest line, and of one line that with the lowest number.
-#[tactic(auto, unfolding(crate::specs::Objects::assembled), using(crate::proofs::Tidiness::symbols_few, crate::proofs::Tidiness::names_few, crate::proofs::Tidiness::object_tidy))]
+#[tactic(auto, unfolding(crate::specs::Objects::assembled), using(crate::proofs::Tidiness::object_tidy))]
 pub fn assemble(alloc: Global, text: &[u8]) -> Result<File, AsmError>
     requires { length text.now < 2 ^ 32 }
     ensures is { Answers result (assembled text.now) }

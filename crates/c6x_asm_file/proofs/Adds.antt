@@ -1,6 +1,7 @@
 -- Sections behind sections.
-use Rattle.std.proofs.Common.{◌≡◌, ℕ, suc, ◌+◌, ◌<◌, ◌≤◌, ◌%◌, Bool, true, false, List, [], ◌∷◌, ◌++◌, length, drop, get_or, map, ap, sym, ◌∙◌, refl, arith, append_assoc, append-nil, length-append}
+use Rattle.std.proofs.Common.{◌≡◌, ℕ, suc, ◌+◌, ◌<◌, ◌≤◌, Bool, true, false, List, [], ◌∷◌, ◌++◌, length, drop, get_or, map, ap, sym, ◌∙◌, refl, arith, append_assoc, append-nil, length-append}
 use Rattle.std.proofs.lemmas.List.{drop_more, drop_all}
+use Rattle.c6x_elf.specs.Names.{name_row}
 use Rattle.c6x_elf.specs.declared.section.Section.{Section}
 use Rattle.c6x_asm_object.specs.declared.asm_section.AsmSection.{AsmSection}
 use Rattle.c6x_asm_object.specs.declared.symbol.Symbol.{Symbol}
@@ -34,13 +35,9 @@ unfolding added
 added_none x = rw (append-nil x.sections, append-nil x.names) refl
 
 -- one section, whose name has two parts
-pub added_one : (front name : List ℕ) (section : Section) (x : Built) → added (named front name section ∷ []) x ≡ built (x.sections ++ (record section { name = length x.names % 4294967296 }) ∷ []) (x.names ++ front ++ name ++ 0 ∷ [])
+pub added_one : (front name : List ℕ) (section : Section) (x : Built) → added (named front name section ∷ []) x ≡ built (x.sections ++ (record section { name = length x.names }) ∷ []) (x.names ++ name_row (front ++ name))
 unfolding added
-added_one front name section x =
-    ap (built (x.sections ++ (record section { name = length x.names % 4294967296 }) ∷ []))
-    (ap (λ end. x.names ++ end) (append_assoc front name (0 ∷ []))
-    ∙ sym (append_assoc x.names front (name ++ 0 ∷ []))
-    ∙ sym (append_assoc (x.names ++ front) name (0 ∷ [])))
+added_one front name section x = refl
 
 pub added_at : (text : List ℕ) (sections : List AsmSection) (i : ℕ) (d : AsmSection) (x : Built) → i < length sections → added (map (named_section text) (drop i sections)) x ≡ added (map (named_section text) (drop (i + 1) sections)) (added (named_section text (get_or sections i d) ∷ []) x)
 added_at text sections i d x inside =

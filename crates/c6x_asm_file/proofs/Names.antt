@@ -9,11 +9,8 @@ use Rattle.c6x_asm_object.specs.declared.symbol.Symbol.{Symbol}
 use Rattle.c6x_asm_form.specs.Bindings.{is_local, is_other}
 use Rattle.c6x_asm_form.specs.Symbols.{entries, name_entries, names_table, null_entry, ordered, section_entries, section_entry, symbol_table}
 use Rattle.c6x_asm_object.specs.Symbols.{symbol_name, names_total}
+use Rattle.c6x_asm_form.proofs.NameLengths.{length-name_rows, names_total-append, names_total-both}
 use Rattle.c6x_asm_file.specs.Names.{is_in, group, name_rows}
-
-pub total_append : (text : List ℕ) (a b : List Symbol) → names_total text (a ++ b) ≡ names_total text a + names_total text b
-total_append text [] b = omega arith
-total_append text (s ∷ a) b = omega (arith, total_append text a b)
 
 pub rows_append : (text : List ℕ) (name : ℕ) (a b : List Symbol) → symbol_rows false (name_entries text name (a ++ b)) ≡ symbol_rows false (name_entries text name a) ++ symbol_rows false (name_entries text (name + names_total text a) b)
 rows_append text name [] b = let e : name + 0 ≡ name = omega arith in rw e refl
@@ -28,17 +25,6 @@ names_append text (s ∷ a) b =
     ap (λ rows. name_row (symbol_name text s) ++ rows) (names_append text a b)
     ∙ sym (append_assoc (name_row (symbol_name text s)) (name_rows text a) (name_rows text b))
 
--- how long they are
-pub length-name_rows : (text : List ℕ) (symbols : List Symbol) → length (name_rows text symbols) ≡ names_total text symbols
-length-name_rows text [] = refl
-length-name_rows text (s ∷ symbols) =
-    omega (
-      arith,
-      length-append (name_row (symbol_name text s)) (name_rows text symbols),
-      length-append (symbol_name text s) (0 ∷ []),
-      length-name_rows text symbols,
-    )
-
 -- the next name of a group comes before the others of it
 pub group_at : (local : Bool) (symbols : List Symbol) (i : ℕ) (d : Symbol) → i < length symbols → group local (drop i symbols) ≡ group local (get_or symbols i d ∷ []) ++ group local (drop (i + 1) symbols)
 unfolding group
@@ -51,7 +37,7 @@ group_end local symbols i past = ap (filter (is_in local)) (drop_all i symbols p
 
 pub total_at : (text : List ℕ) (local : Bool) (symbols : List Symbol) (i : ℕ) (d : Symbol) → i < length symbols → names_total text (group local (drop i symbols)) ≡ names_total text (group local (get_or symbols i d ∷ [])) + names_total text (group local (drop (i + 1) symbols))
 total_at text local symbols i d inside =
-    ap (names_total text) (group_at local symbols i d inside) ∙ total_append text (group local (get_or symbols i d ∷ [])) (group local (drop (i + 1) symbols))
+    ap (names_total text) (group_at local symbols i d inside) ∙ names_total-append text (group local (get_or symbols i d ∷ [])) (group local (drop (i + 1) symbols))
 
 pub total_within : (text : List ℕ) (local : Bool) (symbols : List Symbol) (i : ℕ) (d : Symbol) → i < length symbols → names_total text (group local (get_or symbols i d ∷ [])) ≤ names_total text (group local (drop i symbols))
 total_within text local symbols i d inside = omega (arith, total_at text local symbols i d inside)
@@ -105,12 +91,7 @@ sections_end bytes i count past = let e : count - i ≡ 0 = omega arith in rw e 
 -- the two groups have all names
 pub groups_total : (text : List ℕ) (symbols : List Symbol) → names_total text (group true symbols) + names_total text (group false symbols) ≡ names_total text symbols
 unfolding group
-groups_total text [] = refl
-groups_total text (s ∷ symbols) = either (groups_total text symbols) (is_local s) refl
-  where
-    either : names_total text (group true symbols) + names_total text (group false symbols) ≡ names_total text symbols → (b : Bool) → is_local s ≡ b → names_total text (group true (s ∷ symbols)) + names_total text (group false (s ∷ symbols)) ≡ names_total text (s ∷ symbols)
-    either before true is = rw is (omega arith)
-    either before false is = rw is (omega arith)
+groups_total text symbols = names_total-both text symbols
 
 pub names_first : (text : List ℕ) (local : Bool) (symbols : List Symbol) → names_total text (group local symbols) ≤ names_total text symbols
 names_first text true symbols = omega (arith, groups_total text symbols)

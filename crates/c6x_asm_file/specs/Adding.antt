@@ -1,5 +1,5 @@
 -- The sections of a file and their names, as they grow.
-use Rattle.std.specs.Prelude.{ℕ, ◌%◌, List, [], ◌∷◌, ◌++◌, length, codes}
+use Rattle.std.specs.Prelude.{ℕ, List, [], ◌∷◌, ◌++◌, length, codes}
 use Rattle.c6x_elf.specs.Abi.{SHT_STRTAB}
 use Rattle.c6x_elf.specs.declared.section.Section.{Section}
 use Rattle.c6x_asm_file.specs.Built.{Built, built}
@@ -21,4 +21,4 @@ added more b = built (b.sections ++ sections_from (length b.names) more) (b.name
 unfoldable pub with_names : Built → List Section
 with_names b =
     b.sections
-    ++ (record (table_section SHT_STRTAB 0 0 1 0 (b.names ++ (codes ".shstrtab" ++ (0 ∷ [])))) { name = length b.names % 4294967296 }) ∷ []
+    ++ (record (table_section SHT_STRTAB 0 0 1 0 (b.names ++ (codes ".shstrtab" ++ (0 ∷ [])))) { name = length b.names }) ∷ []

@@ -1,6 +1,7 @@
-ghost use Rattle.std.specs.Prelude.{◌≡◌, ℕ, ◌^◌, ◌<◌, ◌≤◌, [], ◌∷◌, count_by, length, map, slice_index, OnOk};
-ghost use Rattle.c6x_asm_form.specs.Filing.{has_entries, named_section, named_relas};
+ghost use Rattle.std.specs.Prelude.{◌≡◌, ℕ, ◌+◌, ◌^◌, ◌<◌, ◌≤◌, [], ◌∷◌, All, count_by, length, map, slice_index, OnOk};
+ghost use Rattle.c6x_asm_form.specs.Filing.{has_entries, named_section, named_relas, names_of};
 ghost use Rattle.c6x_asm_file.specs.Adding.{added};
+ghost use Rattle.c6x_asm_file.specs.Fitting.{IsListed};
 
 use crate::headers::{TableKind, section_header, table_section};
 use crate::relocating::relocation_table;
@@ -11,13 +12,14 @@ use c6x_elf::abi::SHT_RELA;
 use std::alloc::{AllocError, Global};
 
 /// The named sections.
-#[tactic(auto, using(crate::proofs::Adds::added_at, crate::proofs::Adds::added_end))]
+#[tactic(auto, using(crate::proofs::Adds::added_at, crate::proofs::Adds::added_end, crate::proofs::Rooms::added_within))]
 pub fn add_named_sections(
     alloc: Global,
     text: &[u8],
     sections: &[AsmSection],
     table: &mut SectionTable,
 ) -> Result<(), AllocError>
+    requires { length table.old.names + length (names_of (map (named_section text.now) sections.now)) < 2 ^ 32 }
     ensures { OnOk result (table.new ≡ added (map (named_section text.now) sections.now) table.old) }
 {
     for section in sections {
@@ -35,17 +37,19 @@ pub fn has_entries(section: &AsmSection) -> bool
 }
 
 // The relocation table of the section with this number, if it has relocations.
-#[tactic(auto, using(crate::proofs::Adds::added_none))]
+#[tactic(auto, using(crate::proofs::Adds::added_none, crate::proofs::Rooms::rela_size))]
 fn add_rela(
     alloc: Global,
     text: &[u8],
     numbers: &[usize],
-    symtab: usize,
-    number: usize,
+    symtab: u32,
+    number: u32,
     section: &AsmSection,
     table: &mut SectionTable,
 ) -> Result<(), AllocError>
-    requires { (k : ℕ) → slice_index numbers.now k < 2 ^ 24 }
+    requires numbers { (k : ℕ) → slice_index numbers.now k < 2 ^ 24 }
+    requires listed { IsListed section.now }
+    requires titles { length table.old.names < 2 ^ 32 }
     ensures { OnOk result (table.new ≡ added (named_relas text.now numbers.now symtab number (section.now ∷ [])) table.old) }
 {
     if !has_entries(section) {
@@ -64,16 +68,19 @@ fn add_rela(
 }
 
 /// The relocation tables of the named sections.
-#[tactic(auto, using(crate::proofs::Adds::relas_at, crate::proofs::Adds::relas_end))]
+#[tactic(auto, using(crate::proofs::Adds::relas_at, crate::proofs::Adds::relas_end, crate::proofs::Rooms::added_within))]
 pub fn add_relas(
     alloc: Global,
     text: &[u8],
     numbers: &[usize],
-    symtab: usize,
+    symtab: u32,
     sections: &[AsmSection],
     table: &mut SectionTable,
 ) -> Result<(), AllocError>
-    requires { (k : ℕ) → slice_index numbers.now k < 2 ^ 24 }
+    requires numbers { (k : ℕ) → slice_index numbers.now k < 2 ^ 24 }
+    requires few { length sections.now < 2 ^ 16 }
+    requires listed { All IsListed sections.now }
+    requires titles { length table.old.names + length (names_of (named_relas text.now numbers.now symtab 1 sections.now)) < 2 ^ 32 }
     ensures { OnOk result (table.new ≡ added (named_relas text.now numbers.now symtab 1 sections.now) table.old) }
 {
     let mut number = 1;

@@ -1,7 +1,8 @@
-ghost use Rattle.std.specs.Prelude.{◌≡◌, ◌+◌, ◌^◌, ◌<◌, false, [], ◌∷◌, ◌++◌, OnOk, IfOk};
+ghost use Rattle.std.specs.Prelude.{◌≡◌, ◌+◌, ◌^◌, ◌<◌, false, [], ◌∷◌, ◌++◌, All, OnOk, IfOk};
 ghost use Rattle.c6x_elf.specs.EntryRows.{symbol_rows};
 ghost use Rattle.c6x_asm_form.specs.Symbols.{name_entries, name_entry, null_entry, section_entries, section_entry, symbol_table};
 ghost use Rattle.c6x_asm_object.specs.Symbols.{names_total};
+ghost use Rattle.c6x_asm_file.specs.Fitting.{IsPlaced};
 ghost use Rattle.c6x_asm_file.specs.Names.{group};
 
 use crate::binding::{binding, definition_or_none, is_in, visibility};
@@ -24,7 +25,7 @@ fn null_entry() -> Entry
     }
 }
 
-fn section_entry(number: usize) -> Entry
+fn section_entry(number: u16) -> Entry
     ensures { result ≡ section_entry number }
 {
     Entry {
@@ -33,11 +34,12 @@ fn section_entry(number: usize) -> Entry
         size: 0,
         info: info_of(SymbolBinding::Local, STT_SECTION),
         other: STV_DEFAULT,
-        section: (number % 65_536) as u16,
+        section: number,
     }
 }
 
 fn name_entry(name: u32, symbol: Symbol) -> Entry
+    requires { IsPlaced symbol }
     ensures { result ≡ name_entry name symbol }
 {
     let definition = definition_or_none(symbol.definition);
@@ -47,7 +49,7 @@ fn name_entry(name: u32, symbol: Symbol) -> Entry
         size: definition.size,
         info: info_of(binding(symbol), STT_NOTYPE),
         other: visibility(symbol),
-        section: (definition.section % 65_536) as u16,
+        section: definition.section as u16,
     }
 }
 
@@ -60,7 +62,8 @@ fn put_if(
     name: u32,
     symbol: Symbol,
 ) -> Result<u32, AllocError>
-    requires { name + names_total text.now (group local (symbol ∷ [])) < 2 ^ 32 }
+    requires names { name + names_total text.now (group local (symbol ∷ [])) < 2 ^ 32 }
+    requires placed { IsPlaced symbol }
     ensures bytes { OnOk result (bytes.new.items ≡ bytes.old.items ++ symbol_rows false (name_entries text.now name (group local (symbol ∷ [])))) }
     ensures name { IfOk result (λ next. next ≡ name + names_total text.now (group local (symbol ∷ []))) }
 {
@@ -82,7 +85,8 @@ fn put_group(
     name: u32,
     symbols: &[Symbol],
 ) -> Result<u32, AllocError>
-    requires { name + names_total text.now (group local symbols.now) < 2 ^ 32 }
+    requires names { name + names_total text.now (group local symbols.now) < 2 ^ 32 }
+    requires placed { All IsPlaced symbols.now }
     ensures bytes { OnOk result (bytes.new.items ≡ bytes.old.items ++ symbol_rows false (name_entries text.now name (group local symbols.now))) }
     ensures name { IfOk result (λ next. next ≡ name + names_total text.now (group local symbols.now)) }
 {
@@ -95,11 +99,11 @@ fn put_group(
 
 #[tactic(auto, using(crate::proofs::Names::sections_at, crate::proofs::Names::sections_end))]
 fn put_sections(bytes: &mut Vec<u8>, count: usize) -> Result<(), AllocError>
-    requires { count < 2 ^ 32 }
+    requires { count < 2 ^ 16 }
     ensures { OnOk result (bytes.new.items ≡ bytes.old.items ++ symbol_rows false (section_entries 1 count)) }
 {
     for i in 0..count {
-        put_symbol(bytes, false, &section_entry(i + 1))?;
+        put_symbol(bytes, false, &section_entry(i as u16 + 1))?;
     }
     Ok(())
 }
@@ -112,8 +116,9 @@ pub fn symbol_table(
     sections: usize,
     symbols: &[Symbol],
 ) -> Result<Vec<u8>, AllocError>
-    requires few { sections < 2 ^ 32 }
+    requires few { sections < 2 ^ 16 }
     requires names { 1 + names_total text.now symbols.now < 2 ^ 32 }
+    requires placed { All IsPlaced symbols.now }
     ensures { IfOk result (λ bytes. bytes.items ≡ symbol_table text.now sections symbols.now) }
 {
     let mut bytes = Vec::new(alloc);

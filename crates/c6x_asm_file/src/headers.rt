@@ -52,8 +52,8 @@ pub fn section_header(alloc: Global, section: &AsmSection) -> Result<Section, Al
 #[derive(Clone, Copy)]
 pub struct TableKind {
     pub kind: u32,
-    pub link: usize,
-    pub info: usize,
+    pub link: u32,
+    pub info: u32,
     pub align: u32,
     pub entsize: u32,
 }
@@ -70,9 +70,10 @@ pub const STRINGS: TableKind = TableKind {
 /// The section of a table, without its name.
 #[tactic(auto, unfolding(c6x_asm_form::specs::Headers::table_section))]
 pub fn table_section(alloc: Global, table: TableKind, bytes: &[u8]) -> Result<Section, AllocError>
+    requires { length bytes.now < 2 ^ 32 }
     ensures { IfOk result (λ section. section ≡ table_section table.kind table.link table.info table.align table.entsize bytes.now) }
 {
-    let size = (bytes.len() % 4_294_967_296) as u32;
+    let size = bytes.len() as u32;
     let bytes = Bytes::from_bytes(alloc, bytes)?;
     Ok(Section {
         name: 0,
@@ -80,8 +81,8 @@ pub fn table_section(alloc: Global, table: TableKind, bytes: &[u8]) -> Result<Se
         flags: 0,
         addr: 0,
         size,
-        link: (table.link % 4_294_967_296) as u32,
-        info: (table.info % 4_294_967_296) as u32,
+        link: table.link,
+        info: table.info,
         align: table.align,
         entsize: table.entsize,
         bytes,

@@ -1,17 +1,16 @@
-ghost use Rattle.std.specs.Prelude.{◌≡◌, [], ◌∷◌, OnOk, IfOk};
+ghost use Rattle.std.specs.Prelude.{◌≡◌, ◌+◌, ◌^◌, ◌<◌, [], ◌∷◌, length, OnOk, IfOk};
 ghost use Rattle.c6x_asm_file.specs.Adding.{first_built, named, added, with_names};
 
 use crate::headers::{STRINGS, null_section, table_section};
-use c6x_base::Row;
-use c6x_elf::Section;
+use c6x_elf::{NameTable, Section};
 use std::alloc::{AllocError, Global};
 use std::marker::Model;
 
-/// The sections of an object file so far, and the bytes of their names.
+/// The sections of an object file so far, and the table of their names.
 #[derive(Drop)]
 pub struct SectionTable {
     sections: Vec<Section>,
-    names: Row<u8>,
+    names: NameTable,
 }
 
 impl Model for SectionTable {
@@ -24,7 +23,7 @@ impl Model for SectionTable {
 
 impl SectionTable {
     /// The null section, whose name is empty.
-    #[tactic(auto, unfolding(crate::specs::Adding::first_built))]
+    #[tactic(auto, unfolding(crate::specs::Adding::first_built), using(crate::proofs::Rooms::no_names))]
     pub fn new(alloc: Global) -> Result<SectionTable, AllocError>
         ensures { IfOk result (λ table. table ≡ first_built) }
     {
@@ -32,45 +31,39 @@ impl SectionTable {
         sections
             .push(null_section(alloc)?)
             .map_err(AllocError::from)?;
-        let mut names = Row::new(alloc);
-        names.push(0)?;
-        Ok(SectionTable { sections, names })
+        Ok(SectionTable {
+            sections,
+            names: NameTable::new(alloc)?,
+        })
     }
 
     /// Adds a section, whose name has two parts and goes behind the others.
     #[tactic(auto, using(crate::proofs::Adds::added_one))]
     pub fn add(&mut self, front: &[u8], name: &[u8], section: Section) -> Result<(), AllocError>
+        requires { length self.old.names < 2 ^ 32 }
         ensures { OnOk result (self.new ≡ added (named front.now name.now section ∷ []) self.old) }
     {
-        let at = (self.names.as_slice().len() % 4_294_967_296) as u32;
+        let name = self.names.add_joined(front, name)?;
         self.sections
-            .push(Section {
-                name: at,
-                ..section
-            })
+            .push(Section { name, ..section })
             .map_err(AllocError::from)?;
-        self.names.extend(front)?;
-        self.names.extend(name)?;
-        self.names.push(0)
+        Ok(())
     }
 
     /// All sections, the names of the sections being the last.
     #[tactic(auto, unfolding(crate::specs::Adding::with_names))]
     pub fn finish(self, alloc: Global) -> Result<Vec<Section>, AllocError>
+        requires { length self.names + 10 < 2 ^ 32 }
         ensures { IfOk result (λ sections. sections.items ≡ with_names self) }
     {
         let SectionTable {
             mut sections,
             mut names,
         } = self;
-        let at = (names.as_slice().len() % 4_294_967_296) as u32;
-        names.extend(b".shstrtab\0")?;
-        let section = table_section(alloc, STRINGS, names.as_slice())?;
+        let name = names.add(b".shstrtab")?;
+        let section = table_section(alloc, STRINGS, names.as_bytes())?;
         sections
-            .push(Section {
-                name: at,
-                ..section
-            })
+            .push(Section { name, ..section })
             .map_err(AllocError::from)?;
         Ok(sections)
     }

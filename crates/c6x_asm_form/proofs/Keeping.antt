@@ -10,12 +10,12 @@ use Rattle.c6x_asm_object.specs.declared.symbol.Symbol.{Symbol}
 use Rattle.c6x_asm_form.specs.Bindings.{is_local}
 use Rattle.c6x_asm_form.specs.Filing.{Named, has_entries, named_section, named_rela, named_relas, named_shstrtab, named_strtab, named_symtab, names_of, symtab_of}
 use Rattle.c6x_asm_form.specs.Headers.{table_section}
-use Rattle.c6x_asm_form.specs.Relocations.{number_at, relocation_rows}
+use Rattle.c6x_asm_form.specs.Relocations.{number_at}
 use Rattle.c6x_asm_object.specs.Sound.{AreSound, IsEntrySound, IsSectionSound, IsSymbolSound}
 use Rattle.c6x_asm_form.specs.Symbols.{names_table, symbol_numbers, symbol_table}
 use Rattle.c6x_asm_form.proofs.Lengths.{length-symbol_table}
 use Rattle.c6x_asm_form.proofs.Limited.{IsShort}
-use Rattle.c6x_asm_form.proofs.Lists.{Each, each_append, each_back, each_front, each_of, each_weaken}
+use Rattle.c6x_asm_form.proofs.Lists.{Each, each_append, each_back, each_of, each_weaken}
 use Rattle.c6x_asm_form.proofs.Places.{arranged, every, length-sections_all, of_sections, of_relas, of_tables, sections_all, strtab_text, symtab_text}
 use Rattle.c6x_asm_form.proofs.RelocationEntries.{entry_below}
 use Rattle.c6x_asm_form.proofs.Tables.{Keeps, section_keeps, relas_keep, strings_keep, symbols_keep, table_bytes}
@@ -29,36 +29,30 @@ sections_keep all text count [] sound = tt
 sections_keep all text count (p ∷ ps) sound = (section_keeps (length all) count all p sound.0, sections_keep all text count ps sound.1)
 
 -- a table of relocations, if there is one
-keeps_if : (t : Bool) (P Q : Named → Type 0) (here : Named) (later : List Named) → (Q here → P here) → (Each Q later → Each P later) → Each Q (cond t (here ∷ later) later) → Each P (cond t (here ∷ later) later)
-keeps_if true P Q here later first rest each = (first each.0, rest each.1)
-keeps_if false P Q here later first rest each = rest each
+keeps_if : (t : Bool) (P : Named → Type 0) (here : Named) (later : List Named) → P here → Each P later → Each P (cond t (here ∷ later) later)
+keeps_if true P here later first rest = (first, rest)
+keeps_if false P here later first rest = rest
 
-rela_keeps : (all : List Section) (text numbers : List ℕ) (symtab number count : ℕ) (p : AsmSection) → length all ≤ 4096 → symtab < length all → number < length all → symbols_in all symtab ≤ 2 ^ 24 → ((e : RelocEntry) → IsEntrySound count e → number_at numbers e.symbol < symbols_in all symtab) → IsSectionSound count p → IsShort (named_rela text numbers symtab number p) → KeepsNamed all (named_rela text numbers symtab number p)
-rela_keeps all text numbers symtab number count p most linked inside numbered known sound short =
-    let bytes = relocation_rows numbers p.entries in
-    let same : length (table_section 4 symtab number 4 12 bytes).bytes ≡ length bytes = ap length (table_bytes 4 symtab number 4 12 bytes) in
-    let few : length (table_section 4 symtab number 4 12 bytes).bytes ≤ 1048576 = short.bytes in
-    relas_keep all symtab number numbers p.entries most linked inside (omega arith) numbered
+rela_keeps : (all : List Section) (text numbers : List ℕ) (symtab number count : ℕ) (p : AsmSection) → symtab < length all → number < length all → symbols_in all symtab ≤ 2 ^ 24 → ((e : RelocEntry) → IsEntrySound count e → number_at numbers e.symbol < symbols_in all symtab) → IsSectionSound count p → KeepsNamed all (named_rela text numbers symtab number p)
+rela_keeps all text numbers symtab number count p linked inside numbered known sound =
+    relas_keep all symtab number numbers p.entries linked inside numbered
     (each_weaken (IsEntrySound count) (λ (e : RelocEntry). number_at numbers e.symbol < symbols_in all symtab) p.entries known
     (each_of (IsEntrySound count) p.entries sound.entries))
 
-relas_keeps : (all : List Section) (text numbers : List ℕ) (symtab number count : ℕ) (ps : List AsmSection) → length all ≤ 4096 → symtab < length all → number + length ps ≤ length all → symbols_in all symtab ≤ 2 ^ 24 → ((e : RelocEntry) → IsEntrySound count e → number_at numbers e.symbol < symbols_in all symtab) → Each (IsSectionSound count) ps → Each IsShort (named_relas text numbers symtab number ps) → Each (KeepsNamed all) (named_relas text numbers symtab number ps)
-relas_keeps all text numbers symtab number count [] most linked inside numbered known sound short = tt
-relas_keeps all text numbers symtab number count (p ∷ ps) most linked inside numbered known sound short =
-    keeps_if (has_entries p) (KeepsNamed all) IsShort (named_rela text numbers symtab number p)
+relas_keeps : (all : List Section) (text numbers : List ℕ) (symtab number count : ℕ) (ps : List AsmSection) → symtab < length all → number + length ps ≤ length all → symbols_in all symtab ≤ 2 ^ 24 → ((e : RelocEntry) → IsEntrySound count e → number_at numbers e.symbol < symbols_in all symtab) → Each (IsSectionSound count) ps → Each (KeepsNamed all) (named_relas text numbers symtab number ps)
+relas_keeps all text numbers symtab number count [] linked inside numbered known sound = tt
+relas_keeps all text numbers symtab number count (p ∷ ps) linked inside numbered known sound =
+    keeps_if (has_entries p) (KeepsNamed all) (named_rela text numbers symtab number p)
     (named_relas text numbers symtab (number + 1) ps)
-    (rela_keeps all text numbers symtab number count p most linked (omega arith) numbered known sound.0)
-    (relas_keeps all text numbers symtab (number + 1) count ps most linked (omega arith) numbered known sound.1) short
+    (rela_keeps all text numbers symtab number count p linked (omega arith) numbered known sound.0)
+    (relas_keeps all text numbers symtab (number + 1) count ps linked (omega arith) numbered known sound.1)
 
 -- the three tables at the end
-symtab_keeps : (all : List Section) (text : List ℕ) (ps : List AsmSection) (names : List Symbol) → length all ≤ 4096 → symtab_of ps + 1 < length all → length ps < length all → text_of all (symtab_of ps + 1) ≡ names_table text names → length (names_table text names) ≤ 1048576 → Each (IsSymbolSound (length ps)) names → IsShort (named_symtab text ps names) → KeepsNamed all (named_symtab text ps names)
+symtab_keeps : (all : List Section) (text : List ℕ) (ps : List AsmSection) (names : List Symbol) → length all ≤ 4096 → symtab_of ps + 1 < length all → length ps < length all → text_of all (symtab_of ps + 1) ≡ names_table text names → length (names_table text names) ≤ 1048576 → Each (IsSymbolSound (length ps)) names → KeepsNamed all (named_symtab text ps names)
 unfolding named_symtab
-symtab_keeps all text ps names most linked inside strings few sound short =
+symtab_keeps all text ps names most linked inside strings few sound =
     let info = 1 + length ps + count_by is_local names in
-    let bytes = symbol_table text (length ps) names in
-    let same : length (table_section 2 (symtab_of ps + 1) info 4 16 bytes).bytes ≡ length bytes = ap length (table_bytes 2 (symtab_of ps + 1) info 4 16 bytes) in
-    let small : length (table_section 2 (symtab_of ps + 1) info 4 16 bytes).bytes ≤ 1048576 = short.bytes in
-    symbols_keep all (symtab_of ps + 1) info text (length ps) names most linked inside strings (omega arith) (omega arith) sound
+    symbols_keep all (symtab_of ps + 1) info text (length ps) names most linked inside strings (omega arith) sound
 
 pub symtab_short : (text : List ℕ) (ps : List AsmSection) (names : List Symbol) → IsShort (named_symtab text ps names) → length (symbol_table text (length ps) names) ≤ 1048576
 unfolding named_symtab
@@ -77,17 +71,13 @@ strtab_short text names short =
     let small : length (table_section 3 0 0 1 0 bytes).bytes ≤ 1048576 = short.bytes in
     omega arith
 
-strtab_keeps : (all : List Section) (text : List ℕ) (names : List Symbol) → length (names_table text names) ≤ 1048576 → KeepsNamed all (named_strtab text names)
+strtab_keeps : (all : List Section) (text : List ℕ) (names : List Symbol) → KeepsNamed all (named_strtab text names)
 unfolding named_strtab
-strtab_keeps all text names few = strings_keep (length all) all (names_table text names) (omega arith)
+strtab_keeps all text names = strings_keep (length all) all (names_table text names)
 
-names_keep : (all : List Section) (named : List Named) → IsShort (named_shstrtab named) → KeepsNamed all (named_shstrtab named)
+names_keep : (all : List Section) (named : List Named) → KeepsNamed all (named_shstrtab named)
 unfolding named_shstrtab
-names_keep all named short =
-    let bytes = 0 ∷ (names_of named ++ (codes ".shstrtab" ++ (0 ∷ []))) in
-    let same : length (table_section 3 0 0 1 0 bytes).bytes ≡ length bytes = ap length (table_bytes 3 0 0 1 0 bytes) in
-    let small : length (table_section 3 0 0 1 0 bytes).bytes ≤ 1048576 = short.bytes in
-    strings_keep (length all) all bytes (omega arith)
+names_keep all named = strings_keep (length all) all (0 ∷ (names_of named ++ (codes ".shstrtab" ++ (0 ∷ []))))
 
 -- the symbols that the table has
 symbols_are : (all : List Section) (symtab n : ℕ) (bytes : List ℕ) → (symtab == 0) ≡ false → text_of all symtab ≡ bytes → length bytes ≡ 16 * n → symbols_in all symtab ≡ n
@@ -122,8 +112,7 @@ every_keeps text ps names sound most short =
     subst (Each (KeepsNamed all)) (sym (arranged text ps names))
     (each_append (KeepsNamed all) sections (relas ++ tables) (sections_keep all text (length names) ps sound_sections)
     (each_append (KeepsNamed all) relas tables
-    (relas_keeps all text (symbol_numbers (length ps) names) (symtab_of ps) 1 (length names) ps most (omega arith) (omega arith) numbered known sound_sections
-    (each_front IsShort relas tables behind)) (
-      symtab_keeps all text ps names most (omega arith) (omega arith) (strtab_text text ps names) strings sound_names last.0,
-      (strtab_keeps all text names strings, (names_keep all _ last.1.1.0, tt)),
+    (relas_keeps all text (symbol_numbers (length ps) names) (symtab_of ps) 1 (length names) ps (omega arith) (omega arith) numbered known sound_sections) (
+      symtab_keeps all text ps names most (omega arith) (omega arith) (strtab_text text ps names) strings sound_names,
+      (strtab_keeps all text names, (names_keep all _, tt)),
     )))

@@ -1,6 +1,7 @@
 pub mod Lists
 pub mod ReadBack
 pub mod Lengths
+pub mod NameLengths
 pub mod NameEnds
 pub mod SymbolEntries
 pub mod RelocationEntries

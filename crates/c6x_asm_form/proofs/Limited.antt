@@ -1,5 +1,5 @@
 -- What an object within its limits keeps.
-use Rattle.std.proofs.Common.{◌≡◌, ℕ, ◌+◌, ◌*◌, ◌%◌, ◌≤◌, ◌==◌, ◌||◌, Bool, true, false, cond, max, List, [], ◌∷◌, length, sum_by, nat_lt, refl, arith}
+use Rattle.std.proofs.Common.{◌≡◌, ℕ, ◌+◌, ◌*◌, ◌≤◌, ◌==◌, ◌||◌, Bool, true, false, cond, max, List, [], ◌∷◌, length, sum_by, nat_lt, refl, arith}
 use Rattle.std.specs.List.{list_any}
 use Rattle.std.proofs.lemmas.Bool.Decides.{nat_tests}
 use Rattle.std.proofs.lemmas.List.Sums.{sum_by-cons}
@@ -56,7 +56,7 @@ pub short_from : (at : ℕ) (named : List Named) → list_any is_long (sections_
 short_from at [] is = tt
 short_from at (n ∷ named) is =
     let next = at + (length n.name + 1) in
-    let here = record n.section { name = at % 4294967296 } in
+    let here = record n.section { name = at } in
     let rest = list_any is_long (sections_from next named) in
     (record { bytes = short_of here (or_first (is_long here) rest is) }, short_from next named (or_later (is_long here) rest is))
 

@@ -1,5 +1,5 @@
 -- The entries of a relocation table break no rule.
-use Rattle.std.proofs.Common.{◌≡◌, ℕ, ◌+◌, ◌*◌, ◌/◌, ◌^◌, ◌<◌, ◌≤◌, Bool, true, false, cond, not, List, [], ◌∷◌, ◌++◌, None, Option, Some, length, map, take, get_or, nat_lt, refl, sym, ap, ◌∙◌, IfSome, lit<, subst, zero-add, arith}
+use Rattle.std.proofs.Common.{◌≡◌, ℕ, ◌+◌, ◌*◌, ◌/◌, ◌^◌, ◌<◌, ◌≤◌, Bool, true, false, cond, not, List, [], ◌∷◌, ◌++◌, None, Option, Some, length, take, get_or, nat_lt, refl, sym, ap, ◌∙◌, IfSome, subst, zero-add, arith}
 use Rattle.std.specs.Prelude.{count_by}
 use Rattle.std.specs.Int.{cast_signed, cast_unsigned, w32}
 use Rattle.std.specs.List.{range_with_len}

@@ -1,5 +1,5 @@
 -- The entries of the symbol table break no rule.
-use Rattle.std.proofs.Common.{◌≡◌, ℕ, zero, suc, ◌+◌, ◌*◌, ◌/◌, ◌%◌, ◌^◌, ◌<◌, ◌≤◌, true, false, List, [], ◌∷◌, ◌++◌, None, Option, Some, length, map, refl, sym, ap, ◌∙◌, length-append, append_assoc, zero-add, subst, IfSome, inl, inr, arith}
+use Rattle.std.proofs.Common.{◌≡◌, ℕ, zero, suc, ◌+◌, ◌*◌, ◌/◌, ◌^◌, ◌<◌, ◌≤◌, true, false, List, [], ◌∷◌, ◌++◌, None, Option, Some, length, map, refl, sym, ap, ◌∙◌, length-append, append_assoc, zero-add, subst, IfSome, inl, inr, arith}
 use Rattle.c6x_asm_object.specs.Symbols.{symbol_name}
 use Rattle.std.proofs.lemmas.Bool.Decides.{nat_tests}
 use Rattle.std.specs.Prelude.{filter}
@@ -82,26 +82,20 @@ sections_along all head table strings k number zero linked few has within most h
 sections_along all head table strings k number (suc count) linked few has within most h =
     let row = symbol_row false (section_entry number) in
     let rows = symbol_rows false (section_entries (number + 1) count) in
-    let place : number % 65536 ≡ number = omega arith in
     both_none (symbol_refusal false all head table k) (first_along (symbol_refusal false all head table) (range_with_len (k + 1) count))
     (entry_passes all head table strings k (section_entry number) linked few (holds_left table (16 * k) row rows h)
-    (record { named = has; place = ap (is_section_number (length all)) place ∙ number_below (length all) number (omega arith); fits = omega arith }))
+    (record { named = has; place = number_below (length all) number (omega arith); fits = omega arith }))
     (sections_along all head table strings (k + 1) (number + 1) count linked few has (omega arith) most
     (holds_right table (16 * k) row rows (16 * (k + 1)) h (omega (arith, length-symbol_row false (section_entry number)))))
 
 -- a sound place
-spot_number : (sections count : ℕ) (definition : Definition) → sections < count → count ≤ 4096 → IsDefinitionSound sections definition → is_section_number count (definition.section % 65536) ≡ true
-spot_number sections count definition below most (inl few) =
-    let is : definition.section % 65536 ≡ definition.section = omega arith in
-    ap (is_section_number count) is ∙ number_below count definition.section (omega arith)
+spot_number : (sections count : ℕ) (definition : Definition) → sections < count → count ≤ 4096 → IsDefinitionSound sections definition → (is_section_number count definition.section ≡ true) × (definition.section < 2 ^ 16)
+spot_number sections count definition below most (inl few) = (number_below count definition.section (omega arith), omega arith)
 spot_number sections count definition below most (inr reserved) =
-    let from : 65280 ≤ definition.section = reserved.0 in
-    let to : definition.section < 65536 = reserved.1 in
-    let is : definition.section % 65536 ≡ definition.section = omega arith in
-    ap (is_section_number count) is ∙ number_reserved count definition.section from
+    (number_reserved count definition.section reserved.0, reserved.1)
 
-option_number : (sections count : ℕ) (definition : Option Definition) → sections < count → count ≤ 4096 → IfSome definition (IsDefinitionSound sections) → is_section_number count ((definition_or_none definition).section % 65536) ≡ true
-option_number sections count None below most sound = number_below count 0 (omega arith)
+pub option_number : (sections count : ℕ) (definition : Option Definition) → sections < count → count ≤ 4096 → IfSome definition (IsDefinitionSound sections) → (is_section_number count (definition_or_none definition).section ≡ true) × ((definition_or_none definition).section < 2 ^ 16)
+option_number sections count None below most sound = (number_below count 0 (omega arith), omega arith)
 option_number sections count (Some definition) below most sound = spot_number sections count definition below most sound
 
 -- the symbols of names
@@ -109,6 +103,7 @@ symbols_along : (all : List Section) (head : SectionHead) (table strings text : 
 symbols_along all head table strings text k at sections [] linked few below most sound names h = refl
 symbols_along all head table strings text k at sections (s ∷ symbols) linked few below most sound names h =
     let name = symbol_name text s in
+    let spot = option_number sections (length all) s.definition below most sound.0.place in
     let next = at + (length name + 1) in
     let entry = name_entry at s in
     let row = symbol_row false entry in
@@ -121,8 +116,8 @@ symbols_along all head table strings text k at sections (s ∷ symbols) linked f
     (entry_passes all head table strings k entry linked few (holds_left table (16 * k) row rows h)
     (record {
       named = name_held strings at name others here;
-      place = option_number sections (length all) s.definition below most sound.0.place;
-      fits = omega arith;
+      place = spot.0;
+      fits = spot.1;
     }))
     (symbols_along all head table strings text (k + 1) next sections symbols linked few below most sound.1
     (holds_right strings at (name ++ (0 ∷ [])) others next names ends)

@@ -80,15 +80,9 @@ section_keeps count names all p sound = record {
   entries = plain_entries all (section_header p) (plain_type p.kind).0 (plain_type p.kind).1;
 }
 
--- a number of a header
-fits : (n : ℕ) → n < 4294967296 → n % 4294967296 ≡ n
-fits n below = omega arith
-
-table_sized : (kind link info align entsize : ℕ) (bytes : List ℕ) → has_bytes kind ≡ true → length bytes < 4294967296 → IsSized (table_section kind link info align entsize bytes)
+table_sized : (kind link info align entsize : ℕ) (bytes : List ℕ) → has_bytes kind ≡ true → IsSized (table_section kind link info align entsize bytes)
 unfolding table_section section_size section_head_at
-table_sized kind link info align entsize bytes has below = record {
-  size = rw has (sym (fits (length bytes) below));
-}
+table_sized kind link info align entsize bytes has = record { size = rw has refl }
 
 has_bytes_in : (kind : ℕ) → kind < 5 → 0 < kind → has_bytes kind ≡ true
 unfolding has_bytes
@@ -103,10 +97,10 @@ unfolding table_section
 table_bytes kind link info align entsize bytes = refl
 
 -- a table of names
-pub strings_keep : (count : ℕ) (all : List Section) (bytes : List ℕ) → length bytes < 4294967296 → Keeps count all (table_section 3 0 0 1 0 bytes)
+pub strings_keep : (count : ℕ) (all : List Section) (bytes : List ℕ) → Keeps count all (table_section 3 0 0 1 0 bytes)
 unfolding table_section is_symbol_table is_relocation_table has_bytes
-strings_keep count all bytes below = record {
-  sized = table_sized 3 0 0 1 0 bytes refl below;
+strings_keep count all bytes = record {
+  sized = table_sized 3 0 0 1 0 bytes refl;
   fields = plain_fields count (table_section 3 0 0 1 0 bytes) refl refl;
   entries = plain_entries all (table_section 3 0 0 1 0 bytes) refl refl;
 }
@@ -119,27 +113,25 @@ null_keeps count all = record {
   entries = plain_entries all null_section refl refl;
 }
 
--- whole entries of a table that is no longer than its header can say
-sixteens : (count size : ℕ) → size ≡ 16 * count → size < 4294967296 → (size % 4294967296 % 16 == 0) ≡ true
-sixteens count size is below =
-    let whole : size % 4294967296 % 16 ≡ 0 = omega arith in
+-- whole entries of a table
+sixteens : (count size : ℕ) → size ≡ 16 * count → (size % 16 == 0) ≡ true
+sixteens count size is =
+    let whole : size % 16 ≡ 0 = omega arith in
     grind (arith, nat_tests)
 
-twelves : (count size : ℕ) → size ≡ 12 * count → size < 4294967296 → (size % 4294967296 % 12 == 0) ≡ true
-twelves count size is below =
-    let whole : size % 4294967296 % 12 ≡ 0 = omega arith in
+twelves : (count size : ℕ) → size ≡ 12 * count → (size % 12 == 0) ≡ true
+twelves count size is =
+    let whole : size % 12 ≡ 0 = omega arith in
     grind (arith, nat_tests)
 
-less : (n count : ℕ) → n < count → count ≤ 4096 → nat_lt (n % 4294967296) count ≡ true
-less n count below most =
-    let is : n % 4294967296 ≡ n = omega arith in
-    grind (arith, nat_tests)
+less : (n count : ℕ) → n < count → nat_lt n count ≡ true
+less n count below = grind (arith, nat_tests)
 
-symbols_fields : (count link info : ℕ) (bytes : List ℕ) → nat_lt (link % 4294967296) count ≡ true → (length bytes % 4294967296 % 16 == 0) ≡ true → fields_refusal count (own_head (table_section 2 link info 4 16 bytes)) ≡ None
+symbols_fields : (count link info : ℕ) (bytes : List ℕ) → nat_lt link count ≡ true → (length bytes % 16 == 0) ≡ true → fields_refusal count (own_head (table_section 2 link info 4 16 bytes)) ≡ None
 unfolding fields_refusal table_section section_head_at is_linked has_target has_entries is_symbol_table is_relocation_table must
 symbols_fields count link info bytes linked whole = rw (linked, whole) refl
 
-relas_fields : (count link info : ℕ) (bytes : List ℕ) → nat_lt (link % 4294967296) count ≡ true → nat_lt (info % 4294967296) count ≡ true → (length bytes % 4294967296 % 12 == 0) ≡ true → fields_refusal count (own_head (table_section 4 link info 4 12 bytes)) ≡ None
+relas_fields : (count link info : ℕ) (bytes : List ℕ) → nat_lt link count ≡ true → nat_lt info count ≡ true → (length bytes % 12 == 0) ≡ true → fields_refusal count (own_head (table_section 4 link info 4 12 bytes)) ≡ None
 unfolding fields_refusal table_section section_head_at is_linked has_target has_entries is_symbol_table is_relocation_table must
 relas_fields count link info bytes linked target whole = rw (linked, target, whole) refl
 
@@ -151,35 +143,35 @@ relas_entries : (all : List Section) (link info : ℕ) (bytes : List ℕ) → re
 unfolding entries_refusal table_section section_head_at is_symbol_table is_relocation_table
 relas_entries all link info bytes kept = kept
 
-table_link : (kind link info align entsize : ℕ) (bytes : List ℕ) → link < 4294967296 → (own_head (table_section kind link info align entsize bytes)).link ≡ link
+table_link : (kind link info align entsize : ℕ) (bytes : List ℕ) → (own_head (table_section kind link info align entsize bytes)).link ≡ link
 unfolding table_section section_head_at
-table_link kind link info align entsize bytes below = fits link below
+table_link kind link info align entsize bytes = refl
 
 -- the table of the symbols
-pub symbols_keep : (all : List Section) (link info : ℕ) (text : List ℕ) (sections : ℕ) (symbols : List Symbol) → length all ≤ 4096 → link < length all → sections < length all → text_of all link ≡ names_table text symbols → length (names_table text symbols) < 4294967296 → length (symbol_table text sections symbols) < 4294967296 → Each (IsSymbolSound sections) symbols → Keeps (length all) all (table_section 2 link info 4 16 (symbol_table text sections symbols))
-symbols_keep all link info text sections symbols most below inside linked names few sound =
+pub symbols_keep : (all : List Section) (link info : ℕ) (text : List ℕ) (sections : ℕ) (symbols : List Symbol) → length all ≤ 4096 → link < length all → sections < length all → text_of all link ≡ names_table text symbols → length (names_table text symbols) < 2 ^ 32 → Each (IsSymbolSound sections) symbols → Keeps (length all) all (table_section 2 link info 4 16 (symbol_table text sections symbols))
+symbols_keep all link info text sections symbols most below inside linked names sound =
     let bytes = symbol_table text sections symbols in
     let head = own_head (table_section 2 link info 4 16 bytes) in
     record {
-      sized = table_sized 2 link info 4 16 bytes (has_bytes_in 2 (omega arith) (omega arith)) few;
-      fields = symbols_fields (length all) link info bytes (less link (length all) below most)
-          (sixteens (1 + sections + length symbols) (length bytes) (length-symbol_table text sections symbols) few);
+      sized = table_sized 2 link info 4 16 bytes (has_bytes_in 2 (omega arith) (omega arith));
+      fields = symbols_fields (length all) link info bytes (less link (length all) below)
+          (sixteens (1 + sections + length symbols) (length bytes) (length-symbol_table text sections symbols));
       entries = symbols_entries all link info bytes
-          (symbol_table_passes all head text sections symbols (ap (text_of all) (table_link 2 link info 4 16 bytes (omega arith)) ∙ linked) names inside most sound);
+          (symbol_table_passes all head text sections symbols (ap (text_of all) (table_link 2 link info 4 16 bytes) ∙ linked) names inside most sound);
     }
 
 -- the relocations of a section
-pub relas_keep : (all : List Section) (link info : ℕ) (numbers : List ℕ) (entries : List RelocEntry) → length all ≤ 4096 → link < length all → info < length all → length (relocation_rows numbers entries) < 4294967296 → symbols_in all link ≤ 2 ^ 24 → Each (λ (e : RelocEntry). number_at numbers e.symbol < symbols_in all link) entries → Keeps (length all) all (table_section 4 link info 4 12 (relocation_rows numbers entries))
-relas_keep all link info numbers entries most below inside few numbered sound =
+pub relas_keep : (all : List Section) (link info : ℕ) (numbers : List ℕ) (entries : List RelocEntry) → link < length all → info < length all → symbols_in all link ≤ 2 ^ 24 → Each (λ (e : RelocEntry). number_at numbers e.symbol < symbols_in all link) entries → Keeps (length all) all (table_section 4 link info 4 12 (relocation_rows numbers entries))
+relas_keep all link info numbers entries below inside numbered sound =
     let bytes = relocation_rows numbers entries in
     let head = own_head (table_section 4 link info 4 12 bytes) in
-    let own = sym (table_link 4 link info 4 12 bytes (omega arith)) in
+    let own = sym (table_link 4 link info 4 12 bytes) in
     let Q : ℕ → Type 0 = λ l. symbols_in all l ≤ 2 ^ 24 in
     let P : ℕ → Type 0 = λ l. Each (λ (e : RelocEntry). number_at numbers e.symbol < symbols_in all l) entries in
     record {
-      sized = table_sized 4 link info 4 12 bytes (has_bytes_in 4 (omega arith) (omega arith)) few;
-      fields = relas_fields (length all) link info bytes (less link (length all) below most) (less info (length all) inside most)
-          (twelves (length entries) (length bytes) (length-relocation_rows numbers entries) few);
+      sized = table_sized 4 link info 4 12 bytes (has_bytes_in 4 (omega arith) (omega arith));
+      fields = relas_fields (length all) link info bytes (less link (length all) below) (less info (length all) inside)
+          (twelves (length entries) (length bytes) (length-relocation_rows numbers entries));
       entries = relas_entries all link info bytes
           (relocation_rows_pass all head numbers entries (subst Q own numbered) (subst P own sound));
     }

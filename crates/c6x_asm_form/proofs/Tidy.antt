@@ -1,5 +1,5 @@
 -- The object file of sound sections and symbols within the limits is tidy.
-use Rattle.std.proofs.Common.{◌≡◌, ℕ, suc, ◌+◌, ◌%◌, ◌<◌, ◌≤◌, ◌==◌, false, List, [], ◌∷◌, ◌++◌, None, length, map, sum_by, refl, sym, ap, append_assoc, length-append, subst, arith}
+use Rattle.std.proofs.Common.{◌≡◌, ℕ, suc, ◌+◌, ◌<◌, ◌≤◌, ◌==◌, false, List, [], ◌∷◌, ◌++◌, None, length, map, sum_by, refl, sym, ap, append_assoc, length-append, subst, arith}
 use Rattle.std.specs.Prelude.{IsTrue}
 use Rattle.std.specs.List.{list_any}
 use Rattle.std.proofs.lemmas.Bool.Decides.{nat_tests}
@@ -29,13 +29,10 @@ use Rattle.c6x_asm_form.proofs.Tables.{Keeps, keeps_renamed, null_keeps}
 
 -- a section with its name's offset
 abbrev pub placed : ℕ → Named → Section
-placed at n = record n.section { name = at % 4294967296 }
-
-placed-name : (at : ℕ) (n : Named) → at < 4294967296 → (placed at n).name ≡ at
-placed-name at n below = omega arith
+placed at n = record n.section { name = at }
 
 placed_keeps : (all : List Section) (at : ℕ) (n : Named) → KeepsNamed all n → Keeps (length all) all (placed at n)
-placed_keeps all at n keeps = keeps_renamed (length all) all (at % 4294967296) n.section keeps
+placed_keeps all at n keeps = keeps_renamed (length all) all at n.section keeps
 
 -- the rules along the sections
 sized_along : (all : List Section) (at : ℕ) (named : List Named) → Each (KeepsNamed all) named → Each IsSized (sections_from at named)
@@ -68,7 +65,7 @@ entries_along names all strings at (n ∷ named) some is few keeps h =
     let later : Holds strings at ((n.name ++ (0 ∷ [])) ++ names_of named) = subst P (sym (append_assoc n.name (0 ∷ []) (names_of named))) h in
     both_none (named_refusal false names all (own_head (placed at n)) (placed at n))
     (along_both (named_refusal false names all) (map own_head (sections_from next named)) (sections_from next named))
-    (named_passes names all (placed at n) strings at some is has (placed-name at n (omega arith)) (placed_keeps all at n keeps.0))
+    (named_passes names all (placed at n) strings at some is has refl (placed_keeps all at n keeps.0))
     (entries_along names all strings next named some is few keeps.1
     (holds_right strings at (n.name ++ (0 ∷ [])) (names_of named) next later ends))
 
@@ -136,7 +133,7 @@ tidy_with names all below limits kept =
     }
 
 -- the names of the sections are short, as their table is
-names_short : (text : List ℕ) (ps : List AsmSection) (names : List Symbol) → Each IsShort (every text ps names) → length (names_of (every text ps names)) < 1048576
+pub names_short : (text : List ℕ) (ps : List AsmSection) (names : List Symbol) → Each IsShort (every text ps names) → length (names_of (every text ps names)) < 1048576
 names_short text ps names short =
     let named = named_sections text ps names in
     let last = each_back IsShort named (the_names text ps names ∷ []) short in
@@ -145,20 +142,19 @@ names_short text ps names short =
     omega arith
 
 -- the limits leave only the last of the sections' numbers
-tidy_within : (text : List ℕ) (ps : List AsmSection) (names : List Symbol) → AreSound ps names → IsLimited (file_with ((symtab_of ps + 2) % 65536) (sections_all text ps names)) → IsTidy false (file_with ((symtab_of ps + 2) % 65536) (sections_all text ps names))
+tidy_within : (text : List ℕ) (ps : List AsmSection) (names : List Symbol) → AreSound ps names → IsLimited (file_with (symtab_of ps + 2) (sections_all text ps names)) → IsTidy false (file_with (symtab_of ps + 2) (sections_all text ps names))
 tidy_within text ps names sound limits =
     let all = sections_all text ps names in
     let most : length all ≤ 4096 = limits.count in
     let count : length all ≡ symtab_of ps + 3 = length-sections_all text ps names in
-    let number : (symtab_of ps + 2) % 65536 ≡ symtab_of ps + 2 = omega arith in
     let each : list_any is_long all ≡ false = limits.each in
     let short : Each IsShort (every text ps names) =
     short_from 1 (every text ps names) (or_later (is_long null_section) (list_any is_long (sections_from 1 (every text ps names))) each) in
     let kept : AllKept all (symtab_of ps + 2) = all_kept text ps names (every_keeps text ps names sound most short) (names_short text ps names short) in
-    tidy_with ((symtab_of ps + 2) % 65536) all (omega arith) limits (subst (AllKept all) (sym number) kept)
+    tidy_with (symtab_of ps + 2) all (omega arith) limits kept
 
 -- sound sections and symbols within the limits make a tidy file
 pub tidy : (text : List ℕ) (ps : List AsmSection) (names : List Symbol) → AreSound ps names → is_large text ps names ≡ false → IsTidy false (file_of text ps names)
 unfolding is_large file_of sections_of
 tidy text ps names sound small =
-    tidy_within text ps names sound (limited (file_with ((symtab_of ps + 2) % 65536) (sections_all text ps names)) small)
+    tidy_within text ps names sound (limited (file_with (symtab_of ps + 2) (sections_all text ps names)) small)

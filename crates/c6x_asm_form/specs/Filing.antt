@@ -1,6 +1,6 @@
 -- The object file: the null section, the named ones in order of first appearance, their relocation tables, `.symtab`,
 -- `.strtab`, `.shstrtab`.
-use Rattle.std.specs.Prelude.{ℕ, ◌+◌, ◌%◌, nat_le, Bool, if◌then◌else◌, List, [], ◌∷◌, ◌++◌, length, map, count_by, codes}
+use Rattle.std.specs.Prelude.{ℕ, ◌+◌, nat_le, Bool, if◌then◌else◌, List, [], ◌∷◌, ◌++◌, length, map, count_by, codes}
 use Rattle.c6x_elf.specs.Abi.{ET_REL, SHT_RELA, SHT_STRTAB, SHT_SYMTAB}
 use Rattle.c6x_elf.specs.declared.file.File.{File}
 use Rattle.c6x_elf.specs.declared.section.Section.{Section}
@@ -74,7 +74,7 @@ named_shstrtab named = record {
 -- each section with the offset of its name, where the first one's has this offset
 abbrev pub sections_from : ℕ → List Named → List Section
 sections_from at [] = []
-sections_from at (n ∷ named) = record n.section { name = at % 4294967296 } ∷ sections_from (at + (length n.name + 1)) named
+sections_from at (n ∷ named) = record n.section { name = at } ∷ sections_from (at + (length n.name + 1)) named
 
 unfoldable pub sections_of : List Named → List Section
 sections_of named = null_section ∷ sections_from 1 (named ++ (named_shstrtab named ∷ []))
@@ -84,7 +84,7 @@ file_of text sections symbols = record {
   kind = ET_REL;
   entry = 0;
   flags = 0;
-  names = (symtab_of sections + 2) % 65536;
+  names = symtab_of sections + 2;
   segments = [];
   sections = sections_of (named_sections text sections symbols);
 }

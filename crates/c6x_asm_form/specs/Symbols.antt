@@ -1,6 +1,6 @@
 -- The symbol table of an object and its names (gABI chapter 4, "Symbol Table" and "String Table"): the null symbol, the
 -- section symbols, the local names, the others; the order inside a group is that of first appearance.
-use Rattle.std.specs.Prelude.{ℕ, zero, suc, ◌+◌, ◌%◌, if◌then◌else◌, false, List, [], ◌∷◌, ◌++◌, length, map, take, filter, count_by}
+use Rattle.std.specs.Prelude.{ℕ, zero, suc, ◌+◌, if◌then◌else◌, false, List, [], ◌∷◌, ◌++◌, length, map, take, filter, count_by}
 use Rattle.std.specs.List.{range_with_len}
 use Rattle.c6x_elf.specs.Abi.{SHN_UNDEF, STT_NOTYPE, STT_SECTION, STV_DEFAULT}
 use Rattle.c6x_elf.specs.Attributes.{symbol_info}
@@ -22,7 +22,7 @@ null_entry = record { name = 0; value = 0; size = 0; info = symbol_info Local ST
 
 -- the symbol of the section with this number, of type SECTION
 abbrev pub section_entry : ℕ → Entry
-section_entry number = record { name = 0; value = 0; size = 0; info = symbol_info Local STT_SECTION; other = STV_DEFAULT; section = number % 65536 }
+section_entry number = record { name = 0; value = 0; size = 0; info = symbol_info Local STT_SECTION; other = STV_DEFAULT; section = number }
 
 -- the symbol of a name that stands at an offset of the names
 abbrev pub name_entry : ℕ → Symbol → Entry
@@ -32,7 +32,7 @@ name_entry name s = record {
   size = (definition_or_none s.definition).size;
   info = symbol_info (binding s) STT_NOTYPE;
   other = visibility s;
-  section = (definition_or_none s.definition).section % 65536;
+  section = (definition_or_none s.definition).section;
 }
 
 -- the symbols of so many sections, from this number on

@@ -1,5 +1,4 @@
 pub mod Folds
-pub mod Lengths
 pub mod Stretches
 pub mod Summaries
 pub mod Sections

@@ -22,7 +22,7 @@ use Rattle.c6x_asm_limits.specs.declared.summary.Summary.{Summary}
 use Rattle.c6x_asm_limits.specs.Places.{sections_end}
 use Rattle.c6x_asm_limits.specs.Passing.{has_long, name_bytes, passes, section_count, symbol_bytes, whole_size}
 use Rattle.c6x_asm_limits.specs.Sums.{clipped, is_heavy, is_past, names_of_section, rows_of_section, section_tables}
-use Rattle.c6x_asm_limits.proofs.Lengths.{length-names_table}
+use Rattle.c6x_asm_form.proofs.NameLengths.{length-names_table}
 use Rattle.c6x_asm_limits.proofs.Sections.{any_long, end_table, ends_all, ends_all-append, ends_named, ends_relas, length_relas, long_heavy, long_table, names_of-append, names_sections}
 use Rattle.c6x_asm_limits.proofs.Summaries.{Tells}
 

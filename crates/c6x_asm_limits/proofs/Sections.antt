@@ -1,8 +1,7 @@
 -- What the sections of an object come to: their number, the place behind them, their names, and whether one is too long.
-use Rattle.std.proofs.Common.{◌≡◌, ℕ, ◌+◌, ◌*◌, ◌%◌, nat_le, nat_lt, Bool, true, false, ◌||◌, cond, max, List, [], ◌∷◌, ◌++◌, map, length, length-append, codes, refl, sym, ap, ◌∙◌, arith}
+use Rattle.std.proofs.Common.{◌≡◌, ℕ, ◌+◌, ◌*◌, nat_le, Bool, true, false, ◌||◌, cond, max, List, [], ◌∷◌, ◌++◌, map, length, length-append, codes, refl, sym, ap, ◌∙◌, arith}
 use Rattle.std.specs.Prelude.{sum_by}
 use Rattle.std.specs.List.{list_any}
-use Rattle.std.proofs.Math.Nat.{mod-le}
 use Rattle.std.proofs.lemmas.Bool.Decides.{nat_tests}
 use Rattle.std.proofs.lemmas.List.Sums.{sum_by-cons}
 use Rattle.c6x_spec.specs.Rounded.{rounded}
@@ -37,13 +36,14 @@ names_of-append [] b = omega arith
 names_of-append (n ∷ a) b =
     omega (arith, length-append n.name (0 ∷ names_of (a ++ b)), length-append n.name (0 ∷ names_of a), names_of-append a b)
 
--- a table, whose size is the length of its bytes modulo another number
-long_size : (n limit whole : ℕ) → (nat_lt limit (n % whole) || nat_lt limit n) ≡ nat_lt limit n
-long_size n limit whole = grind (arith, nat_tests, mod-le n whole)
+-- a table, whose size is the length of its bytes
+either_same : (b : Bool) → (b || b) ≡ b
+either_same true = refl
+either_same false = refl
 
 pub long_table : (kind link info align entsize : ℕ) (bytes : List ℕ) → is_long (table_section kind link info align entsize bytes) ≡ is_past (length bytes)
 unfolding is_long is_past table_section
-long_table kind link info align entsize bytes = long_size (length bytes) 1048576 4294967296
+long_table kind link info align entsize bytes = either_same (is_past (length bytes))
 
 pub end_table : (at kind link info align entsize : ℕ) (bytes : List ℕ) → has_bytes kind ≡ true → offset_end at (table_section kind link info align entsize bytes) ≡ rounded at (max align 1) + length bytes
 unfolding offset_end table_section

@@ -31,7 +31,6 @@ impl NameTable {
     }
 
     /// Puts a name behind the others; the answer is its place. A name that has no zero byte is found there again.
-    #[tactic(auto, using(crate::proofs::NameTables::table_more, crate::proofs::NameTables::name_behind))]
     pub fn add(&mut self, name: &[u8]) -> Result<u32, AllocError>
         requires { length self.old < 2 ^ 32 }
         ensures place { IfOk result (λ place. place ≡ length self.old) }
@@ -39,10 +38,7 @@ impl NameTable {
         ensures table { OnOk result ((names : List (List ℕ)) → self.old ≡ name_table names → self.new ≡ name_table (names ++ name.now ∷ [])) }
         ensures back { OnOk result (IsName name.now → name_of self.new (length self.old) ≡ Some name.now) }
     {
-        let place = self.bytes.len() as u32;
-        self.bytes.extend_from_slice(name)?;
-        self.bytes.push(0)?;
-        Ok(place)
+        self.add_joined(&[], name)
     }
 
     /// Puts a name of two parts behind the others; the answer is its place.

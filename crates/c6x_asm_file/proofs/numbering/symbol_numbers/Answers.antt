@@ -1,4 +1,4 @@
-use Rattle.std.proofs.Common.{◌≡◌, ℕ, ◌+◌, ◌<◌, length, arith}
+use Rattle.std.proofs.Common.{arith}
 use Rattle.c6x_asm_file.proofs.Counts.{numbers_small}
 use Rattle.c6x_asm_file.proofs.numbering.symbol_numbers.Goals as goal
 

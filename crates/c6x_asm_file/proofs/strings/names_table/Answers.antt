@@ -1,4 +1,4 @@
-use Rattle.std.proofs.Common.{◌+◌, ◌^◌, ◌<◌, ap, true, length, arith}
+use Rattle.std.proofs.Common.{ap, true, length, arith}
 use Rattle.c6x_asm_file.proofs.Names.{names_first, none_size}
 use Rattle.c6x_asm_file.proofs.strings.names_table.Goals as goal
 

@@ -1,5 +1,4 @@
-use Rattle.std.proofs.Common.{◌≡◌, ◌+◌, ◌++◌, drop, length}
-use Rattle.c6x_asm_object.specs.Symbols.{names_total}
+use Rattle.std.proofs.Common.{◌≡◌, ◌++◌, drop}
 use Rattle.c6x_asm_file.specs.Names.{group, name_rows}
 use Rattle.c6x_asm_file.proofs.strings.put_names.Given as goal
 

@@ -8,7 +8,7 @@ use Rattle.c6x_asm_form.specs.Symbols.{names_table, ordered}
 use Rattle.c6x_asm_object.specs.Symbols.{symbol_name, names_total}
 
 -- the names, with a zero byte behind each
-length-name_rows : (text : List ℕ) (symbols : List Symbol) → length (flat_map name_row (map (symbol_name text) symbols)) ≡ names_total text symbols
+pub length-name_rows : (text : List ℕ) (symbols : List Symbol) → length (flat_map name_row (map (symbol_name text) symbols)) ≡ names_total text symbols
 length-name_rows text [] = refl
 length-name_rows text (s ∷ symbols) =
     omega (
@@ -18,7 +18,7 @@ length-name_rows text (s ∷ symbols) =
       length-name_rows text symbols,
     )
 
-names_total-append : (text : List ℕ) (a b : List Symbol) → names_total text (a ++ b) ≡ names_total text a + names_total text b
+pub names_total-append : (text : List ℕ) (a b : List Symbol) → names_total text (a ++ b) ≡ names_total text a + names_total text b
 names_total-append text [] b = omega arith
 names_total-append text (s ∷ a) b = omega (arith, names_total-append text a b)
 
@@ -26,7 +26,7 @@ either_name : (local : Bool) (text : List ℕ) (s : Symbol) (a b : List Symbol) 
 either_name true text s a b = omega arith
 either_name false text s a b = omega arith
 
-names_total-both : (text : List ℕ) (symbols : List Symbol) → names_total text (filter is_local symbols) + names_total text (filter is_other symbols) ≡ names_total text symbols
+pub names_total-both : (text : List ℕ) (symbols : List Symbol) → names_total text (filter is_local symbols) + names_total text (filter is_other symbols) ≡ names_total text symbols
 names_total-both text [] = refl
 names_total-both text (s ∷ symbols) =
     either_name (is_local s) text s (filter is_local symbols) (filter is_other symbols)
