@@ -1,4 +1,5 @@
 ghost use Rattle.std.specs.Prelude.{◌≡◌, ◌≤◌};
+ghost use Rattle.std.specs.List.{Contains};
 ghost use Rattle.c6x_policy.specs.Picks.{IsReady, effective_process, effective_steps};
 
 use crate::next::next_from;
@@ -12,6 +13,7 @@ pub fn effective_pick(pick: Pick, ready: &[u32], processes: u32, quantum: u32) -
     requires quantum { 1 ≤ quantum }
     ensures process { result.process ≡ effective_process processes ready.now pick }
     ensures steps { result.steps ≡ effective_steps quantum pick }
+    ensures ready { Contains ready.now result.process }
     ensures least { 1 ≤ result.steps }
 {
     Pick {

@@ -1,5 +1,5 @@
 ghost use Rattle.std.specs.Prelude.{◌≡◌, ◌<◌, nat_le, IfSome};
-ghost use Rattle.std.specs.List.{find};
+ghost use Rattle.std.specs.List.{Contains, find};
 ghost use Rattle.c6x_policy.specs.declared.limits.TheConstants.{NUMBERS};
 ghost use Rattle.c6x_policy.specs.Picks.{IsReady, next_from};
 
@@ -17,6 +17,7 @@ fn first_from(ready: &[u32], from: u32) -> Option<u32>
 pub(crate) fn next_from(ready: &[u32], from: u32) -> u32
     requires { IsReady ready.now }
     ensures value { result ≡ next_from ready.now from }
+    ensures ready { Contains ready.now result }
     ensures below { result < NUMBERS }
 {
     first_from(ready, from).unwrap_or(ready[0])

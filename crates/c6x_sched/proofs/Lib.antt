@@ -1,0 +1,4 @@
+pub mod Open
+pub mod Moves
+pub mod Plays
+pub mod Unique

@@ -1,0 +1,12 @@
+ghost use Rattle.c6x_policy.specs.Chooser.{Chooses};
+ghost use Rattle.c6x_policy.specs.Picks.{IsReady};
+
+use c6x_policy::{Pick, Policy};
+
+/// The policy's answer, where these processes are ready.
+pub(crate) fn chosen(policy: &mut Box<dyn Policy>, ready: &[u32]) -> Pick
+    requires { IsReady ready.now }
+    ensures { Chooses ready.now (seen policy.old) (seen policy.new) result }
+{
+    policy.choose(ready)
+}

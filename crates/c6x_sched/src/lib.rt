@@ -1,0 +1,18 @@
+//! Processes that take turns on one board.
+//!
+//! A [`System`] asks a policy, lent in a box, whom to run and for how long, until every process has ended. What a process
+//! does in its turns is what it does alone: no turn changes a byte of another.
+#![tactic(auto)]
+
+mod chosen;
+mod laws;
+mod one_turn;
+mod ready;
+mod run_at;
+mod system;
+mod turn;
+
+pub use c6x_processes::Loaded;
+pub use laws::{one_play_of_a_length, one_whole_play};
+pub use system::System;
+pub use turn::Turn;
