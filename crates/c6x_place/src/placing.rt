@@ -24,6 +24,7 @@ pub fn place(
     requires same { length bound.now.processes ≡ length processes.now }
     requires memory { CanStart base len }
     ensures value { Placed (λ placement. placement) result (placement_of modules.now processes.now bound.now.processes base (base + len)) }
+    ensures stands { IfOk result (IsPlacement modules.now processes.now bound.now.processes base (base + len)) }
 {
     placed(alloc, modules, processes, bound, base, len)
 }
