@@ -2,3 +2,8 @@ pub mod EntryWalks
 pub mod RangeWalks
 pub mod FieldWalks
 pub mod Marks
+pub mod Through
+pub mod ValidRanges
+pub mod ValidFields
+pub mod ValidTables
+pub mod Validity

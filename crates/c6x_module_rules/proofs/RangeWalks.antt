@@ -15,11 +15,11 @@ pub first_range_more : (ss : List Segment) (i : ℕ) (d : Segment) → i < lengt
 first_range_more ss i d below = ap (first_where is_range) (drop_more ss i d below)
 
 -- what is found passes the test, and fits memory where all do
-and_first : (a b : Bool) → (a && b) ≡ true → a ≡ true
+pub and_first : (a b : Bool) → (a && b) ≡ true → a ≡ true
 and_first true b both = refl
 and_first false b both = both
 
-and_second : (a b : Bool) → (a && b) ≡ true → b ≡ true
+pub and_second : (a b : Bool) → (a && b) ≡ true → b ≡ true
 and_second true b both = both
 and_second false b both = absurd (cc)
 

@@ -1,4 +1,7 @@
-use c6x_module::Module;
+use crate::reading::read_module;
+use c6x_base::Name;
+use c6x_elf::File;
+use c6x_module::{DynSymbol, Module, ModuleError};
 use std::alloc::Global;
 use std::marker::Model;
 
@@ -8,6 +11,7 @@ pub const MOST_OWNED_MODULES: u32 = 256;
 /// The modules of a plan, in its order. Contracts see the list of the modules.
 #[derive(Debug, Drop)]
 pub struct Modules {
+    alloc: Global,
     modules: Vec<Module>,
 }
 
@@ -24,19 +28,39 @@ impl Model for Modules {
 }
 
 impl Modules {
-    ghost use Rattle.std.specs.Prelude.{◌≡◌, ◌<◌, ◌≤◌, ◌∷◌, ◌++◌, [], length, Some, OnOk, IsNone};
+    ghost use Rattle.std.specs.Prelude.{◌≡◌, ◌<◌, ◌≤◌, [], length, Some, OnErr, OnOk, false};
     ghost use Rattle.std.specs.List.{slice_get};
     ghost use Rattle.c6x_module.specs.Lookups.{export_from, symbols_of};
     ghost use Rattle.c6x_module.specs.Valid.{IsValid};
-    ghost use Rattle.c6x_modules.specs.Owned.{AreModules};
+    ghost use Rattle.c6x_base.specs.declared.limits.TheConstants.{MOST_SEGMENTS as most_segments};
+    ghost use Rattle.c6x_module_rules.specs.Modules.{module_in};
+    ghost use Rattle.c6x_module_rules.specs.Refusals.{Passes};
+    ghost use Rattle.c6x_modules.specs.Owned.{AreModules, IsNew, refusal_of, with_module};
+    ghost use Rattle.c6x_modules.specs.declared.modules.TheConstants.{MOST_OWNED_MODULES as most};
 
     /// No modules. It takes no memory yet.
     pub fn new(alloc: Global) -> Modules
         ensures { result ≡ [] }
     {
         Modules {
+            alloc,
             modules: Vec::new(alloc),
         }
+    }
+
+    /// Takes a module in from its file, behind the others. L1 to L11 come exactly where they are the first broken rule;
+    /// after every refusal the modules are as before, and the file is dropped.
+    pub fn add(&mut self, name: Name, file: File) -> Result<(), ModuleError>
+        requires few { length self.old < most }
+        requires fresh { IsNew self.old name }
+        requires segments { length file.segments ≤ most_segments }
+        ensures passes { Passes result (refusal_of (module_in false name file)) }
+        ensures added { OnOk result (self.new ≡ with_module self.old (module_in false name file)) }
+        ensures kept { OnErr result (self.new ≡ self.old) }
+    {
+        let image = read_module(self.alloc, name, file)?;
+        self.modules.push(image)?;
+        Ok(())
     }
 
     /// How many modules there are.
@@ -78,7 +102,7 @@ ghost use Rattle.c6x_module.specs.Lookups.{export_from};
 
 /// The lowest number of a symbol of this name that a look-up may find.
 #[tactic(auto, using(crate::proofs::Walks::export_more))]
-fn export(symbols: &[c6x_module::DynSymbol], name: &[u8]) -> Option<u32>
+fn export(symbols: &[DynSymbol], name: &[u8]) -> Option<u32>
     requires { length symbols.now < 2 ^ 32 }
     ensures { result ≡ export_from name.now 0 symbols.now }
 {

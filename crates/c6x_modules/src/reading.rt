@@ -1,4 +1,6 @@
-ghost use Rattle.std.specs.Prelude.{◌≤◌, false, length};
+ghost use Rattle.std.specs.Prelude.{◌≡◌, ◌≤◌, IfOk, false, length};
+ghost use Rattle.c6x_base.specs.declared.limits.TheConstants.{MOST_SEGMENTS as most};
+ghost use Rattle.c6x_module.specs.Valid.{IsValid};
 ghost use Rattle.c6x_module_rules.specs.Modules.{module_in};
 ghost use Rattle.c6x_module_rules.specs.Refusals.{Answers};
 
@@ -12,8 +14,10 @@ use std::alloc::Global;
 /// The module that a file's program headers and dynamic tags give, or the first broken rule of L1 to L11. The file is
 /// taken over: the segments' bytes are not copied.
 pub fn read_module(alloc: Global, name: Name, file: File) -> Result<Module, ModuleError>
-    requires { length file.segments ≤ 64 }
-    ensures { Answers (λ image. image) result (module_in false name file) }
+    requires { length file.segments ≤ most }
+    ensures read { Answers (λ image. image) result (module_in false name file) }
+    ensures valid { IfOk result (λ image. IsValid image) }
+    ensures named { IfOk result (λ image. image.name ≡ name) }
 {
     let survey = read_survey(alloc, false, &name, &file)?;
     let kind = file.kind;

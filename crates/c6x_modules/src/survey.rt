@@ -1,4 +1,5 @@
 ghost use Rattle.std.specs.Prelude.{◌≡◌, ◌*◌, ◌≤◌, ◌++◌, IfOk, IsOk, OnOk, length};
+ghost use Rattle.c6x_base.specs.declared.limits.TheConstants.{MOST_SEGMENTS as most};
 ghost use Rattle.c6x_elf.specs.Abi.{DT_DSBT_BASE as base_tag, DT_DSBT_SIZE as size_tag};
 ghost use Rattle.c6x_module.specs.Valid.{IsInside};
 ghost use Rattle.c6x_module_rules.specs.Entries.{tag_or as value_at};
@@ -38,7 +39,7 @@ pub fn read_survey(
     name: &Name,
     file: &File,
 ) -> Result<Survey, ModuleError>
-    requires { length file.now.segments ≤ 64 }
+    requires { length file.now.segments ≤ most }
     ensures read { Surveys name.now file.now result (module_in big name.now file.now) }
     ensures ranges { OnOk result (IsOk (ranges_in file.now.segments)) }
 {
