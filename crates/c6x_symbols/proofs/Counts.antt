@@ -17,7 +17,7 @@ use Rattle.c6x_symbols.specs.Mentions.{link_of}
 use Rattle.c6x_base.specs.declared.limits.TheConstants.{MOST_HELD_BYTES}
 
 -- a section is no longer than all bytes together
-text_small : (file : File) → HasReadForm false file → (k : ℕ) → length (text_of file.sections k) ≤ MOST_HELD_BYTES
+pub text_small : (file : File) → HasReadForm false file → (k : ℕ) → length (text_of file.sections k) ≤ MOST_HELD_BYTES
 text_small file form k = either (leb_tells (length file.sections) k)
   where
     d : Section
