@@ -2,3 +2,5 @@ pub mod Working
 pub mod Addresses
 pub mod Targets
 pub mod LinkEntries
+pub mod SectionAddresses
+pub mod Symbols
