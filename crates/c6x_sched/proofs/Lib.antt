@@ -1,3 +1,4 @@
+pub mod At
 pub mod Open
 pub mod Moves
 pub mod Plays

@@ -15,6 +15,7 @@ use Rattle.c6x_exec.specs.declared.run.Ran.{Ran}
 use Rattle.c6x_exec.proofs.Standing.{stands_elsewhere}
 use Rattle.c6x_exec.proofs.Loads.{lie_sized}
 use Rattle.c6x_sched.specs.Ran.{HasRunOn, IsTurned}
+use Rattle.c6x_sched.proofs.At.{Found, found_at}
 use Rattle.c6x_processes.specs.Together.{AllStand, AreApart, AllLieOn}
 use Rattle.c6x_policy.specs.Picks.{effective_process, effective_steps}
 use Rattle.c6x_policy.specs.declared.pick.Pick.{Pick}
@@ -23,15 +24,6 @@ use Rattle.c6x_sched.specs.declared.turn.Turn.{Turn}
 use Rattle.c6x_sched.specs.Step.{IsTurnOf}
 use Rattle.c6x_sched.specs.System.{processes_of, quantum_of}
 use Rattle.c6x_sched.specs.Turns.{ready_of, cycles_left, all_left, moved}
-
-pub record Found (ps : List Process) (k : ℕ) : Type 0 where
-  pub process : Process
-  pub is : slice_get ps k ≡ Some process
-
-pub found_at : (ps : List Process) (k : ℕ) → k < length ps → Found ps k
-found_at [] k within = absurd (omega arith)
-found_at (p ∷ ps) zero within = record { process = p; is = refl }
-found_at (p ∷ ps) (suc k) within = let rest : Found ps k = found_at ps k (omega arith) in record { process = rest.process; is = rest.is }
 
 here_moved : (n : ℕ → ℕ) (at cycles i : ℕ) → i ≡ at → n i + cycles ≡ moved n at cycles i
 here_moved n at cycles i same = let test : nat_eq i at ≡ true = grind (arith, nat_tests) in rw test refl

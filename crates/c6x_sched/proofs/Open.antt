@@ -10,6 +10,9 @@ use Rattle.c6x_exec.specs.Process.{ended_of, StandsFor}
 use Rattle.c6x_exec.specs.declared.process.Process.{Process}
 use Rattle.c6x_policy.specs.Picks.{IsReady}
 use Rattle.c6x_processes.specs.Together.{AllStand}
+use Rattle.c6x_sched.specs.Ended.{HasEnded, AllEnded}
+use Rattle.c6x_sched.specs.Laws.{IsRunning}
+use Rattle.c6x_sched.proofs.At.{Found, found_at}
 use Rattle.c6x_sched.specs.Turns.{ready_from, ready_of, open_from}
 
 -- a process of the list, from number i on, that has not ended
@@ -127,10 +130,6 @@ all_open ps b s n stand = open_is 0 ps b s n (λ k p is.
     subst P place (stand k p is))
 
 -- where none is ready, each has ended
-pub record HasEnded (p : Process) : Type 0 where
-  pub end : End
-  pub is : ended_of p ≡ Some end
-
 ended_by : (p : Process) (found : Option End) → ended_of p ≡ found → is_none found ≡ false → HasEnded p
 ended_by p None is open_it = cc
 ended_by p (Some end) is open_it = record { end = end; is = is }
@@ -146,6 +145,41 @@ none_ready i (q ∷ ps) none zero p is =
     ended_by p (ended_of p) refl (ap (λ (r : Process). is_none (ended_of r)) (sym one) ∙ (none_first i (ready_from (i + 1) ps) (is_none (ended_of q)) none).0)
 none_ready i (q ∷ ps) none (suc k) p is = none_ready (i + 1) ps (none_first i (ready_from (i + 1) ps) (is_none (ended_of q)) none).1 k p is
 
-pub all_ended : (ps : List Process) → ready_of ps ≡ [] → (k : ℕ) (p : Process) → slice_get ps k ≡ Some p → HasEnded p
+pub all_ended : (ps : List Process) → ready_of ps ≡ [] → AllEnded ps
 unfolding ready_of
-all_ended ps none k p is = none_ready 0 ps none k p is
+all_ended ps none = λ k p is. none_ready 0 ps none k p is
+
+-- the ready numbers are those of the processes that have not ended
+behind_first : (i : ℕ) (rest : List ℕ) (test : Bool) (x : ℕ) → Contains rest x → Contains (if test then i ∷ rest else rest) x
+behind_first i rest true x k = (suc k.0, omega (arith, k.1), k.2)
+behind_first i rest false x k = k
+
+first_listed : (i : ℕ) (rest : List ℕ) (test : Bool) → test ≡ true → Contains (if test then i ∷ rest else rest) i
+first_listed i rest true is = (0, omega arith, refl)
+first_listed i rest false is = cc
+
+listed_at : (i k : ℕ) (ps : List Process) (p : Process) → slice_get ps k ≡ Some p → ended_of p ≡ None → Contains (ready_from i ps) (i + k)
+listed_at i k [] p is running = cc
+listed_at i zero (q ∷ ps) p is running =
+    let one : p ≡ q = cc in
+    let runs : is_none (ended_of q) ≡ true = ap (λ (r : Process). is_none (ended_of r)) (sym one) ∙ ap (λ (o : Option End). is_none o) running in
+    let P : ℕ → Type 0 = λ m. Contains (ready_from i (q ∷ ps)) m in
+    let here : i ≡ i + 0 = omega arith in
+    subst P here (first_listed i (ready_from (i + 1) ps) (is_none (ended_of q)) runs)
+listed_at i (suc k) (q ∷ ps) p is running =
+    let P : ℕ → Type 0 = λ m. Contains (ready_from (i + 1) ps) m in
+    let there : i + 1 + k ≡ i + suc k = omega arith in
+    behind_first i (ready_from (i + 1) ps) (is_none (ended_of q)) (i + suc k) (subst P there (listed_at (i + 1) k ps p is running))
+
+pub ready_runs : (ps : List Process) (x : ℕ) → Contains (ready_of ps) x → IsRunning ps x
+ready_runs ps x k =
+    let runs : IsOpen 0 ps x = ready_open ps (ready_of ps) x refl k in
+    let one : Found ps x = found_at ps x (omega (arith, runs.to)) in
+    record { process = one.process; is = one.is; running = runs_at ps x runs one.process one.is }
+
+pub runs_ready : (ps : List Process) (x : ℕ) → IsRunning ps x → Contains (ready_of ps) x
+unfolding ready_of
+runs_ready ps x k =
+    let P : ℕ → Type 0 = λ m. Contains (ready_from 0 ps) m in
+    let same : 0 + x ≡ x = omega arith in
+    subst P same (listed_at 0 x ps k.process k.is k.running)

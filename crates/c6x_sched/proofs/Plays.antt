@@ -10,7 +10,7 @@ use Rattle.c6x_machine.specs.Machine.{life}
 use Rattle.c6x_exec.specs.Fits.{IsFramed}
 use Rattle.c6x_exec.specs.Process.{areas_of, StandsFor}
 use Rattle.c6x_exec.specs.declared.process.Process.{Process}
-use Rattle.c6x_exec.proofs.Standing.{life_done}
+use Rattle.c6x_exec.proofs.Standing.{life_done, stands_within, has_run}
 use Rattle.c6x_policy.specs.Chooser.{Chooser}
 use Rattle.c6x_policy.specs.Picks.{is_named, pick_of, effective_process, effective_steps}
 use Rattle.c6x_policy.specs.declared.kind.Kind.{Kind}
@@ -18,12 +18,13 @@ use Rattle.c6x_policy.specs.declared.pick.Pick.{Pick}
 use Rattle.c6x_processes.specs.Together.{AllStand, AreApart, AreFramed}
 use Rattle.c6x_sched.specs.declared.system.System.{System}
 use Rattle.c6x_sched.specs.declared.turn.Turn.{Turn}
+use Rattle.c6x_sched.specs.Ended.{HasEnded, AllHaveLived}
 use Rattle.c6x_sched.specs.Play.{Game, Played, IsNext, PlaysOn, HasPlayed, counts_of, open_of, state_of}
 use Rattle.c6x_sched.specs.Step.{HasStepped}
 use Rattle.c6x_sched.specs.System.{processes_of, quantum_of}
 use Rattle.c6x_sched.specs.Turns.{ready_of, open_from}
-use Rattle.c6x_sched.proofs.Moves.{Found, found_at}
-use Rattle.c6x_sched.proofs.Open.{HasEnded, all_ended, all_open}
+use Rattle.c6x_sched.proofs.At.{Found, found_at}
+use Rattle.c6x_sched.proofs.Open.{all_ended, all_open}
 
 abbrev pub told : Turn → Played
 told turn = record { process = turn.process; cycles = turn.cycles }
@@ -129,3 +130,13 @@ areas_next first ps qs count one more = λ k p q is_p is_q.
     let within : k < length qs = slice_get_within qs k q is_q in
     let amid : Found ps k = found_at ps k (omega (arith, within, count)) in
     more k amid.process q amid.is is_q ∙ one k p amid.process is_p amid.is
+
+-- each has lived its life, with the end of its machine alone
+pub lived_end : (g : Game) (ps : List Process) (b : Memory) (state : List ℕ) → ready_of ps ≡ [] → PlaysOn g ps b state → AllHaveLived ps b g.starts
+lived_end g ps b state none k = λ i p is.
+    let over : HasEnded p = all_ended ps none i p is in
+    let stand : StandsFor p b (g.starts i) (counts_of g k.play i) = k.stand i p is in
+    record {
+      ended = over;
+      ran = has_run p b (g.starts i) (counts_of g k.play i) over.end stand (stands_within p b (g.starts i) (counts_of g k.play i) stand p.sound) over.is;
+    }

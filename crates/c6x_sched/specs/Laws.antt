@@ -1,7 +1,20 @@
--- Plays of a policy of a named kind.
-use Rattle.std.specs.Prelude.{◌≡◌, List, length, IsTrue}
+-- Facts on ready processes and on plays.
+use Rattle.std.specs.Prelude.{◌≡◌, ◌↔◌, ℕ, List, length, slice_get, Some, None, IsTrue}
+use Rattle.std.specs.List.{Contains}
+use Rattle.c6x_exec.specs.Process.{ended_of}
+use Rattle.c6x_exec.specs.declared.process.Process.{Process}
 use Rattle.c6x_policy.specs.Picks.{is_named}
 use Rattle.c6x_sched.specs.Play.{Game, Played, IsPlay, IsOver}
+use Rattle.c6x_sched.specs.Turns.{ready_of}
+
+-- The process with this number is there and has not ended.
+pub record IsRunning (ps : List Process) (number : ℕ) : Type 0 where
+  pub process : Process
+  pub is : slice_get ps number ≡ Some process
+  pub running : ended_of process ≡ None
+
+abbrev pub ReadyAreThoseThatRun : Type 0
+ReadyAreThoseThatRun = (ps : List Process) (number : ℕ) → (Contains (ready_of ps) number) ↔ IsRunning ps number
 
 -- Of as many turns there is one play,
 abbrev pub OnePlayOfALength : Type 0

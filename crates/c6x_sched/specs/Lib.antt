@@ -1,5 +1,6 @@
 pub mod System
 pub mod Turns
+pub mod Ended
 pub mod Ran
 pub mod Step
 pub mod Play

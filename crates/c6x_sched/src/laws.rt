@@ -1,4 +1,11 @@
-ghost use Rattle.c6x_sched.specs.Laws.{OnePlayOfALength, OneWholePlay};
+//! Facts about the definitions of turns, each the contract of a function that does nothing.
+
+ghost use Rattle.c6x_sched.specs.Laws.{ReadyAreThoseThatRun, OnePlayOfALength, OneWholePlay};
+
+/// The ready numbers are those of the processes that have not ended.
+pub fn ready_are_those_that_run()
+    ensures { ReadyAreThoseThatRun }
+{}
 
 /// Two plays of as many turns under a policy of a named kind are the same: a shorter play is the beginning of a longer one.
 pub fn one_play_of_a_length()

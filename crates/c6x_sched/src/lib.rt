@@ -13,6 +13,6 @@ mod system;
 mod turn;
 
 pub use c6x_processes::Loaded;
-pub use laws::{one_play_of_a_length, one_whole_play};
+pub use laws::{one_play_of_a_length, one_whole_play, ready_are_those_that_run};
 pub use system::System;
 pub use turn::Turn;

@@ -29,6 +29,7 @@ impl System {
     ghost use Rattle.c6x_machine.specs.Origin.{Origin};
     ghost use Rattle.c6x_policy.specs.declared.limits.TheConstants.{MOST_QUANTUM};
     ghost use Rattle.c6x_processes.specs.Together.{AllStand, AreApart, AllLieOn, AreFramed};
+    ghost use Rattle.c6x_sched.specs.Ended.{AllEnded, AllHaveLived};
     ghost use Rattle.c6x_sched.specs.Play.{HasPlayed, game_of};
     ghost use Rattle.c6x_sched.specs.Step.{IsTurnOf, HasStepped};
     ghost use Rattle.c6x_sched.specs.System.{processes_of, quantum_of};
@@ -89,9 +90,12 @@ impl System {
     /// Does turns of the policy's choice until every process has ended.
     pub fn run(&mut self, board: &mut Board, policy: &mut Box<dyn Policy>)
         requires on_board { AllLieOn board.old (processes_of self.old) }
-        ensures ended { ready_of (processes_of self.new) ≡ [] }
+        ensures done { ready_of (processes_of self.new) ≡ [] }
+        ensures ended { AllEnded (processes_of self.new) }
         ensures lives { (s : ℕ → Origin) (n : ℕ → ℕ) → AreApart (processes_of self.old)
             → AllStand (processes_of self.old) board.old s n → AllStand (processes_of self.new) board.new s (λ i. life (s i)) }
+        ensures ran { (s : ℕ → Origin) (n : ℕ → ℕ) → AreApart (processes_of self.old)
+            → AllStand (processes_of self.old) board.old s n → AllHaveLived (processes_of self.new) board.new s }
         ensures played { (s : ℕ → Origin) (n : ℕ → ℕ) → AreApart (processes_of self.old)
             → AllStand (processes_of self.old) board.old s n
             → HasPlayed (game_of (processes_of self.old) (quantum_of self.old) (seen policy.old) s n) (processes_of self.new) board.new (seen policy.new).state }

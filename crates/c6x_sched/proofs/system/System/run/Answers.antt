@@ -3,8 +3,10 @@ use Rattle.c6x_spec.specs.Memory.{Memory}
 use Rattle.c6x_machine.specs.Machine.{life}
 use Rattle.c6x_exec.specs.declared.process.Process.{Process}
 use Rattle.c6x_processes.specs.Together.{AllStand}
+use Rattle.c6x_sched.specs.Ended.{AllEnded, AllHaveLived}
 use Rattle.c6x_sched.specs.System.{processes_of}
-use Rattle.c6x_sched.proofs.Plays.{plays_next, plays_end, lives_end, areas_next, framed_next, asked_next}
+use Rattle.c6x_sched.proofs.Open.{all_ended}
+use Rattle.c6x_sched.proofs.Plays.{plays_next, plays_end, lives_end, lived_end, areas_next, framed_next, asked_next}
 use Rattle.c6x_sched.proofs.system.System.run.Goals as goal
 
 pub turns-preserved : goal.turns-preserved
@@ -33,3 +35,16 @@ returns-in-None-clause-played g c s n apart stand =
     let idle = c.in-None.ensures.idle in
     rw (idle.0, idle.2, idle.3)
     (plays_end _ _ _ _ c.turns.invariant.count c.in-None.ensures.none (c.turns.invariant.plays s n apart stand))
+
+pub returns-in-None-clause-ended : goal.returns-in-None-clause-ended
+returns-in-None-clause-ended g c =
+    let P : List Process → Type 0 = λ ps. AllEnded ps in
+    subst P (sym c.in-None.ensures.idle.0) (all_ended _ c.in-None.ensures.none)
+
+pub returns-in-None-clause-ran : goal.returns-in-None-clause-ran
+returns-in-None-clause-ran g c s n apart stand =
+    let idle = c.in-None.ensures.idle in
+    let P : List Process → Type 0 = λ ps. AllHaveLived ps c.step.new.board s in
+    let Q : Memory → Type 0 = λ b. AllHaveLived (processes_of c.turns.self) b s in
+    subst P (sym idle.0)
+    (subst Q (sym idle.2) (lived_end _ _ _ _ c.in-None.ensures.none (c.turns.invariant.plays s n apart stand)))
