@@ -2,6 +2,7 @@
 use Rattle.std.proofs.Common.{◌≡◌, ℕ, ◌+◌, ◌^◌, ◌<◌, ◌≤◌, Bool, true, false, cond, List, [], ◌∷◌, ◌++◌, length, nat_le, refl, ap, subst, length-append, arith}
 use Rattle.std.specs.List.{list_any}
 use Rattle.std.proofs.lemmas.Bool.Decides.{nat_tests}
+use Rattle.c6x_base.specs.declared.limits.TheConstants.{MOST_SECTIONS}
 use Rattle.c6x_asm_object.specs.declared.asm_section.AsmSection.{AsmSection}
 use Rattle.c6x_asm_object.specs.declared.symbol.Symbol.{Symbol}
 use Rattle.c6x_asm_object.specs.Sound.{AreSound, IsSymbolSound}
@@ -45,16 +46,16 @@ relas_listed text numbers symtab number (p ∷ ps) short =
     let split = split_if (has_entries p) (named_rela text numbers symtab number p) (named_relas text numbers symtab (number + 1) ps) short in
     (listed_if (has_entries p) text numbers symtab number p refl split.0, relas_listed text numbers symtab (number + 1) ps split.1)
 
-symbols_placed : (sections : ℕ) (names : List Symbol) → sections < 4096 → Each (IsSymbolSound sections) names → Each IsPlaced names
+symbols_placed : (sections : ℕ) (names : List Symbol) → sections < MOST_SECTIONS → Each (IsSymbolSound sections) names → Each IsPlaced names
 symbols_placed sections [] few sound = tt
 symbols_placed sections (s ∷ names) few sound =
-    ((option_number sections 4096 s.definition few (omega arith) sound.0.place).1, symbols_placed sections names few sound.1)
+    ((option_number sections MOST_SECTIONS s.definition few (omega arith) sound.0.place).1, symbols_placed sections names few sound.1)
 
 strings_few : (text : List ℕ) (names : List Symbol) → IsShort (named_strtab text names) → 1 + names_total text names < 2 ^ 32
 unfolding named_strtab table_section
 strings_few text names short = omega (arith, short.bytes, length-names_table text names)
 
-fits_within : (text : List ℕ) (ps : List AsmSection) (names : List Symbol) → AreSound ps names → length (sections_all text ps names) ≤ 4096 → Each IsShort (every text ps names) → FitsFields text ps names
+fits_within : (text : List ℕ) (ps : List AsmSection) (names : List Symbol) → AreSound ps names → length (sections_all text ps names) ≤ MOST_SECTIONS → Each IsShort (every text ps names) → FitsFields text ps names
 fits_within text ps names sound most short =
     let sections = of_sections text ps in
     let relas = of_relas text ps names in
@@ -86,6 +87,6 @@ unfolding is_large file_of sections_of
 fits text ps names sound small =
     let limits : IsLimited (file_of text ps names) = limited (file_of text ps names) small in
     let each : list_any is_long (sections_all text ps names) ≡ false = limits.each in
-    let most : length (sections_all text ps names) ≤ 4096 = limits.count in
+    let most : length (sections_all text ps names) ≤ MOST_SECTIONS = limits.count in
     fits_within text ps names sound most
     (short_from 1 (every text ps names) (or_later (is_long null_section) (list_any is_long (sections_from 1 (every text ps names))) each))

@@ -2,6 +2,7 @@
 use Rattle.std.proofs.Common.{◌≡◌, ℕ, ◌+◌, ◌*◌, ◌/◌, ◌^◌, ◌<◌, ◌≤◌, ◌==◌, Bool, true, false, cond, List, [], ◌∷◌, ◌++◌, length, map, sym, ap, ◌∙◌, subst, arith}
 use Rattle.std.specs.Prelude.{codes, count_by}
 use Rattle.std.proofs.lemmas.Bool.Decides.{nat_tests}
+use Rattle.c6x_base.specs.declared.limits.TheConstants.{MOST_SECTIONS}
 use Rattle.c6x_elf.specs.Entries.{symbols_in, text_of}
 use Rattle.c6x_elf.specs.declared.section.Section.{Section}
 use Rattle.c6x_asm_object.specs.declared.reloc_entry.RelocEntry.{RelocEntry}
@@ -48,7 +49,7 @@ relas_keeps all text numbers symtab number count (p ∷ ps) linked inside number
     (relas_keeps all text numbers symtab (number + 1) count ps linked (omega arith) numbered known sound.1)
 
 -- the three tables at the end
-symtab_keeps : (all : List Section) (text : List ℕ) (ps : List AsmSection) (names : List Symbol) → length all ≤ 4096 → symtab_of ps + 1 < length all → length ps < length all → text_of all (symtab_of ps + 1) ≡ names_table text names → length (names_table text names) ≤ 1048576 → Each (IsSymbolSound (length ps)) names → KeepsNamed all (named_symtab text ps names)
+symtab_keeps : (all : List Section) (text : List ℕ) (ps : List AsmSection) (names : List Symbol) → length all ≤ MOST_SECTIONS → symtab_of ps + 1 < length all → length ps < length all → text_of all (symtab_of ps + 1) ≡ names_table text names → length (names_table text names) ≤ 1048576 → Each (IsSymbolSound (length ps)) names → KeepsNamed all (named_symtab text ps names)
 unfolding named_symtab
 symtab_keeps all text ps names most linked inside strings few sound =
     let info = 1 + length ps + count_by is_local names in
@@ -87,7 +88,7 @@ symbols_are all symtab n bytes some is long =
     rw some count
 
 -- all sections but the null section
-pub every_keeps : (text : List ℕ) (ps : List AsmSection) (names : List Symbol) → AreSound ps names → length (sections_all text ps names) ≤ 4096 → Each IsShort (every text ps names) → Each (KeepsNamed (sections_all text ps names)) (every text ps names)
+pub every_keeps : (text : List ℕ) (ps : List AsmSection) (names : List Symbol) → AreSound ps names → length (sections_all text ps names) ≤ MOST_SECTIONS → Each IsShort (every text ps names) → Each (KeepsNamed (sections_all text ps names)) (every text ps names)
 every_keeps text ps names sound most short =
     let all = sections_all text ps names in
     let sections = of_sections text ps in

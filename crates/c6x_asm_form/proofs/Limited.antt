@@ -3,6 +3,7 @@ use Rattle.std.proofs.Common.{◌≡◌, ℕ, ◌+◌, ◌*◌, ◌≤◌, ◌==
 use Rattle.std.specs.List.{list_any}
 use Rattle.std.proofs.lemmas.Bool.Decides.{nat_tests}
 use Rattle.std.proofs.lemmas.List.Sums.{sum_by-cons}
+use Rattle.c6x_base.specs.declared.limits.TheConstants.{MOST_FILE_BYTES, MOST_SECTIONS}
 use Rattle.c6x_spec.specs.Rounded.{rounded}
 use Rattle.c6x_elf.specs.Form.{IsSized, section_length}
 use Rattle.c6x_elf.specs.Parts.{has_bytes, section_size}
@@ -27,21 +28,21 @@ not_below a b is = grind (arith, nat_tests)
 
 -- The three limits of a file.
 pub record IsLimited (file : File) : Type 0 where
-  pub count : length file.sections ≤ 4096
+  pub count : length file.sections ≤ MOST_SECTIONS
   pub each : list_any is_long file.sections ≡ false
-  pub small : written_size file ≤ 4194304
+  pub small : written_size file ≤ MOST_FILE_BYTES
 
 pub limited : (file : File) → passes_limit file ≡ false → IsLimited file
 unfolding passes_limit
 limited file is =
-    let many = nat_lt 4096 (length file.sections) in
+    let many = nat_lt MOST_SECTIONS (length file.sections) in
     let long = list_any is_long file.sections in
-    let large = nat_lt 4194304 (written_size file) in
+    let large = nat_lt MOST_FILE_BYTES (written_size file) in
     let rest = or_later many (long || large) is in
     record {
-      count = not_below 4096 (length file.sections) (or_first many (long || large) is);
+      count = not_below MOST_SECTIONS (length file.sections) (or_first many (long || large) is);
       each = or_first long large rest;
-      small = not_below 4194304 (written_size file) (or_later long large rest);
+      small = not_below MOST_FILE_BYTES (written_size file) (or_later long large rest);
     }
 
 -- A section that is not too long, with bytes that are not too many.

@@ -5,6 +5,7 @@ use Rattle.std.proofs.lemmas.Bool.Decides.{nat_tests}
 use Rattle.std.specs.Prelude.{filter}
 use Rattle.std.specs.List.{flat_map, range_with_len}
 use Rattle.std.proofs.lemmas.Grind.{flat_map-append}
+use Rattle.c6x_base.specs.declared.limits.TheConstants.{MOST_SECTIONS}
 use Rattle.c6x_spec.specs.Numbers.{half_at, word_at}
 use Rattle.c6x_elf.specs.Rules.{first_along, must}
 use Rattle.c6x_elf.specs.ElfRules.{Index}
@@ -77,7 +78,7 @@ unfolding is_section_number
 number_reserved count number above = grind (arith, nat_tests)
 
 -- the symbols of the sections
-sections_along : (all : List Section) (head : SectionHead) (table strings : List ℕ) (k number count : ℕ) → text_of all head.link ≡ strings → length strings < 2 ^ 32 → HasName strings 0 → number + count ≤ length all → length all ≤ 4096 → Holds table (16 * k) (symbol_rows false (section_entries number count)) → first_along (symbol_refusal false all head table) (range_with_len k count) ≡ None
+sections_along : (all : List Section) (head : SectionHead) (table strings : List ℕ) (k number count : ℕ) → text_of all head.link ≡ strings → length strings < 2 ^ 32 → HasName strings 0 → number + count ≤ length all → length all ≤ MOST_SECTIONS → Holds table (16 * k) (symbol_rows false (section_entries number count)) → first_along (symbol_refusal false all head table) (range_with_len k count) ≡ None
 sections_along all head table strings k number zero linked few has within most h = refl
 sections_along all head table strings k number (suc count) linked few has within most h =
     let row = symbol_row false (section_entry number) in
@@ -89,17 +90,17 @@ sections_along all head table strings k number (suc count) linked few has within
     (holds_right table (16 * k) row rows (16 * (k + 1)) h (omega (arith, length-symbol_row false (section_entry number)))))
 
 -- a sound place
-spot_number : (sections count : ℕ) (definition : Definition) → sections < count → count ≤ 4096 → IsDefinitionSound sections definition → (is_section_number count definition.section ≡ true) × (definition.section < 2 ^ 16)
+spot_number : (sections count : ℕ) (definition : Definition) → sections < count → count ≤ MOST_SECTIONS → IsDefinitionSound sections definition → (is_section_number count definition.section ≡ true) × (definition.section < 2 ^ 16)
 spot_number sections count definition below most (inl few) = (number_below count definition.section (omega arith), omega arith)
 spot_number sections count definition below most (inr reserved) =
     (number_reserved count definition.section reserved.0, reserved.1)
 
-pub option_number : (sections count : ℕ) (definition : Option Definition) → sections < count → count ≤ 4096 → IfSome definition (IsDefinitionSound sections) → (is_section_number count (definition_or_none definition).section ≡ true) × ((definition_or_none definition).section < 2 ^ 16)
+pub option_number : (sections count : ℕ) (definition : Option Definition) → sections < count → count ≤ MOST_SECTIONS → IfSome definition (IsDefinitionSound sections) → (is_section_number count (definition_or_none definition).section ≡ true) × ((definition_or_none definition).section < 2 ^ 16)
 option_number sections count None below most sound = (number_below count 0 (omega arith), omega arith)
 option_number sections count (Some definition) below most sound = spot_number sections count definition below most sound
 
 -- the symbols of names
-symbols_along : (all : List Section) (head : SectionHead) (table strings text : List ℕ) (k at sections : ℕ) (symbols : List Symbol) → text_of all head.link ≡ strings → length strings < 2 ^ 32 → sections < length all → length all ≤ 4096 → Each (IsSymbolSound sections) symbols → Holds strings at (flat_map name_row (map (symbol_name text) symbols)) → Holds table (16 * k) (symbol_rows false (name_entries text at symbols)) → first_along (symbol_refusal false all head table) (range_with_len k (length symbols)) ≡ None
+symbols_along : (all : List Section) (head : SectionHead) (table strings text : List ℕ) (k at sections : ℕ) (symbols : List Symbol) → text_of all head.link ≡ strings → length strings < 2 ^ 32 → sections < length all → length all ≤ MOST_SECTIONS → Each (IsSymbolSound sections) symbols → Holds strings at (flat_map name_row (map (symbol_name text) symbols)) → Holds table (16 * k) (symbol_rows false (name_entries text at symbols)) → first_along (symbol_refusal false all head table) (range_with_len k (length symbols)) ≡ None
 symbols_along all head table strings text k at sections [] linked few below most sound names h = refl
 symbols_along all head table strings text k at sections (s ∷ symbols) linked few below most sound names h =
     let name = symbol_name text s in
@@ -130,7 +131,7 @@ ordered_sound sections symbols sound =
     (each_filter (IsSymbolSound sections) is_local symbols sound) (each_filter (IsSymbolSound sections) is_other symbols sound)
 
 -- the table of the names, and that of the symbols, as a whole
-table_along : (all : List Section) (head : SectionHead) (table text : List ℕ) (sections : ℕ) (symbols : List Symbol) → text_of all head.link ≡ names_table text symbols → length (names_table text symbols) < 2 ^ 32 → sections < length all → length all ≤ 4096 → Each (IsSymbolSound sections) symbols → table ≡ symbol_table text sections symbols → first_along (symbol_refusal false all head table) (range_with_len 0 (1 + sections + length symbols)) ≡ None
+table_along : (all : List Section) (head : SectionHead) (table text : List ℕ) (sections : ℕ) (symbols : List Symbol) → text_of all head.link ≡ names_table text symbols → length (names_table text symbols) < 2 ^ 32 → sections < length all → length all ≤ MOST_SECTIONS → Each (IsSymbolSound sections) symbols → table ≡ symbol_table text sections symbols → first_along (symbol_refusal false all head table) (range_with_len 0 (1 + sections + length symbols)) ≡ None
 unfolding symbol_table entries names_table name_table
 table_along all head table text sections symbols linked few below most sound is =
     let others = flat_map name_row (map (symbol_name text) (ordered symbols)) in
@@ -163,7 +164,7 @@ table_along all head table text sections symbols linked few below most sound is 
 sixteenth : (n : ℕ) → 16 * n / 16 ≡ n
 sixteenth n = omega arith
 
-pub symbol_table_passes : (all : List Section) (head : SectionHead) (text : List ℕ) (sections : ℕ) (symbols : List Symbol) → text_of all head.link ≡ names_table text symbols → length (names_table text symbols) < 2 ^ 32 → sections < length all → length all ≤ 4096 → Each (IsSymbolSound sections) symbols → symbols_refusal false all head (symbol_table text sections symbols) ≡ None
+pub symbol_table_passes : (all : List Section) (head : SectionHead) (text : List ℕ) (sections : ℕ) (symbols : List Symbol) → text_of all head.link ≡ names_table text symbols → length (names_table text symbols) < 2 ^ 32 → sections < length all → length all ≤ MOST_SECTIONS → Each (IsSymbolSound sections) symbols → symbols_refusal false all head (symbol_table text sections symbols) ≡ None
 unfolding symbols_refusal
 symbol_table_passes all head text sections symbols linked few below most sound =
     let table = symbol_table text sections symbols in

@@ -1,6 +1,7 @@
 -- The sections of an object one by one: sizes, fields and entries.
 use Rattle.std.proofs.Common.{◌≡◌, ℕ, ◌+◌, ◌*◌, ◌%◌, ◌^◌, ◌<◌, ◌≤◌, ◌==◌, true, false, cond, List, [], None, length, nat_lt, refl, sym, ap, ◌∙◌, subst, arith}
 use Rattle.std.proofs.lemmas.Bool.Decides.{nat_tests}
+use Rattle.c6x_base.specs.declared.limits.TheConstants.{MOST_SECTIONS}
 use Rattle.c6x_elf.specs.Rules.{must}
 use Rattle.c6x_elf.specs.Entries.{entries_refusal, rela_refusal, relas_refusal, symbol_refusal, symbols_in, symbols_refusal, text_of}
 use Rattle.c6x_elf.specs.Form.{IsSized, own_head}
@@ -148,7 +149,7 @@ unfolding table_section section_head_at
 table_link kind link info align entsize bytes = refl
 
 -- the table of the symbols
-pub symbols_keep : (all : List Section) (link info : ℕ) (text : List ℕ) (sections : ℕ) (symbols : List Symbol) → length all ≤ 4096 → link < length all → sections < length all → text_of all link ≡ names_table text symbols → length (names_table text symbols) < 2 ^ 32 → Each (IsSymbolSound sections) symbols → Keeps (length all) all (table_section 2 link info 4 16 (symbol_table text sections symbols))
+pub symbols_keep : (all : List Section) (link info : ℕ) (text : List ℕ) (sections : ℕ) (symbols : List Symbol) → length all ≤ MOST_SECTIONS → link < length all → sections < length all → text_of all link ≡ names_table text symbols → length (names_table text symbols) < 2 ^ 32 → Each (IsSymbolSound sections) symbols → Keeps (length all) all (table_section 2 link info 4 16 (symbol_table text sections symbols))
 symbols_keep all link info text sections symbols most below inside linked names sound =
     let bytes = symbol_table text sections symbols in
     let head = own_head (table_section 2 link info 4 16 bytes) in

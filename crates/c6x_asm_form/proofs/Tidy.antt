@@ -3,6 +3,7 @@ use Rattle.std.proofs.Common.{◌≡◌, ℕ, suc, ◌+◌, ◌<◌, ◌≤◌, 
 use Rattle.std.specs.Prelude.{IsTrue}
 use Rattle.std.specs.List.{list_any}
 use Rattle.std.proofs.lemmas.Bool.Decides.{nat_tests}
+use Rattle.c6x_base.specs.declared.limits.TheConstants.{MOST_FILE_BYTES, MOST_SECTIONS}
 use Rattle.c6x_elf.specs.Header.{is_file_type, is_none_or_below}
 use Rattle.c6x_elf.specs.Rules.{along_both, first_along}
 use Rattle.c6x_elf.specs.Held.{Holds}
@@ -114,8 +115,8 @@ names_below names count below = grind (arith, nat_tests)
 
 tidy_with : (names : ℕ) (all : List Section) → names < length all → IsLimited (file_with names all) → AllKept all names → IsTidy false (file_with names all)
 tidy_with names all below limits kept =
-    let count : length all ≤ 4096 = limits.count in
-    let small : written_size (file_with names all) ≤ 4194304 = limits.small in
+    let count : length all ≤ MOST_SECTIONS = limits.count in
+    let small : written_size (file_with names all) ≤ MOST_FILE_BYTES = limits.small in
     let sum : sum_by section_length all ≤ written_size (file_with names all) = sum_within (file_with names all) kept.sized in
     record {
       form = record {
@@ -145,7 +146,7 @@ names_short text ps names short =
 tidy_within : (text : List ℕ) (ps : List AsmSection) (names : List Symbol) → AreSound ps names → IsLimited (file_with (symtab_of ps + 2) (sections_all text ps names)) → IsTidy false (file_with (symtab_of ps + 2) (sections_all text ps names))
 tidy_within text ps names sound limits =
     let all = sections_all text ps names in
-    let most : length all ≤ 4096 = limits.count in
+    let most : length all ≤ MOST_SECTIONS = limits.count in
     let count : length all ≡ symtab_of ps + 3 = length-sections_all text ps names in
     let each : list_any is_long all ≡ false = limits.each in
     let short : Each IsShort (every text ps names) =

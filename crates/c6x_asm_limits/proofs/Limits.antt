@@ -6,6 +6,7 @@ use Rattle.std.proofs.lemmas.Bool.{cases_lt}
 use Rattle.std.proofs.lemmas.Bool.Decides.{nat_tests}
 use Rattle.std.proofs.lemmas.List.{length-map}
 use Rattle.std.proofs.lemmas.List.Folds.{list_any-append}
+use Rattle.c6x_base.specs.declared.limits.TheConstants.{MOST_FILE_BYTES, MOST_SECTIONS}
 use Rattle.c6x_spec.specs.Rounded.{rounded}
 use Rattle.c6x_elf.specs.Parts.{has_bytes}
 use Rattle.c6x_elf.specs.Writing.{offset_end, offsets_end, written_size}
@@ -55,9 +56,9 @@ some_not_none n = grind (arith, nat_tests)
 
 -- whether numbers pass a limit
 abbrev pasts : ℕ → Bool → ℕ → Bool
-pasts count long end = nat_lt 4096 count || (long || nat_lt 4194304 (rounded end 4 + 40 * count))
+pasts count long end = nat_lt MOST_SECTIONS count || (long || nat_lt MOST_FILE_BYTES (rounded end 4 + 40 * count))
 
-past_all : (none : Bool) (n count end at : ℕ) (long other : Bool) → none ≡ false → n ≡ count → long ≡ other → end ≡ at → (nat_lt 4096 n || (long || nat_lt 4194304 (cond none end (rounded end 4 + 40 * n)))) ≡ pasts count other at
+past_all : (none : Bool) (n count end at : ℕ) (long other : Bool) → none ≡ false → n ≡ count → long ≡ other → end ≡ at → (nat_lt MOST_SECTIONS n || (long || nat_lt MOST_FILE_BYTES (cond none end (rounded end 4 + 40 * n)))) ≡ pasts count other at
 past_all none n count end at long other is counted same ends = rw (is, counted, same, ends) refl
 
 -- the sections with their names
@@ -221,16 +222,16 @@ same_test limit m n up down = elim (cases_lt limit m) [
     test_false : (a b : ℕ) → b ≤ a → nat_lt a b ≡ false
     test_false a b less = grind (arith, nat_tests)
 
-clipped_count : (n t : ℕ) → nat_lt 4096 (section_count n (clipped t)) ≡ nat_lt 4096 (section_count n t)
-clipped_count n t = same_test 4096 (section_count n (clipped t)) (section_count n t) (λ past. omega (arith, past)) (λ past. omega (arith, past))
+clipped_count : (n t : ℕ) → nat_lt MOST_SECTIONS (section_count n (clipped t)) ≡ nat_lt MOST_SECTIONS (section_count n t)
+clipped_count n t = same_test MOST_SECTIONS (section_count n (clipped t)) (section_count n t) (λ past. omega (arith, past)) (λ past. omega (arith, past))
 
 clipped_names : (q : ℕ) → is_past (name_bytes (clipped q)) ≡ is_past (name_bytes q)
 unfolding is_past
 clipped_names q = same_test 1048576 (name_bytes (clipped q)) (name_bytes q) (λ past. omega (arith, past)) (λ past. omega (arith, past))
 
-clipped_size : (at sections symbols names t r q : ℕ) → nat_lt 4194304 (rounded (last_end at (clipped r) (symbol_bytes sections symbols) names (name_bytes (clipped q))) 4 + 40 * section_count sections (clipped t)) ≡ nat_lt 4194304 (rounded (last_end at r (symbol_bytes sections symbols) names (name_bytes q)) 4 + 40 * section_count sections t)
+clipped_size : (at sections symbols names t r q : ℕ) → nat_lt MOST_FILE_BYTES (rounded (last_end at (clipped r) (symbol_bytes sections symbols) names (name_bytes (clipped q))) 4 + 40 * section_count sections (clipped t)) ≡ nat_lt MOST_FILE_BYTES (rounded (last_end at r (symbol_bytes sections symbols) names (name_bytes q)) 4 + 40 * section_count sections t)
 clipped_size at sections symbols names t r q =
-    same_test 4194304 (rounded (last_end at (clipped r) (symbol_bytes sections symbols) names (name_bytes (clipped q))) 4 + 40 * section_count sections (clipped t))
+    same_test MOST_FILE_BYTES (rounded (last_end at (clipped r) (symbol_bytes sections symbols) names (name_bytes (clipped q))) 4 + 40 * section_count sections (clipped t))
     (rounded (last_end at r (symbol_bytes sections symbols) names (name_bytes q)) 4 + 40 * section_count sections t)
     (λ past. omega (arith, past)) (λ past. omega (arith, past))
 
@@ -255,15 +256,15 @@ or_later true b c is = refl
 or_later false true c is = refl
 or_later false false c is = is
 
-past_from : (m n : ℕ) → 4194304 < m → m ≤ n → nat_lt 4194304 n ≡ true
+past_from : (m n : ℕ) → MOST_FILE_BYTES < m → m ≤ n → nat_lt MOST_FILE_BYTES n ≡ true
 past_from m n past less = grind (arith, nat_tests)
 
-passes_past : (at sections symbols names : ℕ) (s : Summary) → 4194304 < at → passes at sections symbols names s ≡ true
+passes_past : (at sections symbols names : ℕ) (s : Summary) → MOST_FILE_BYTES < at → passes at sections symbols names s ≡ true
 unfolding passes
 passes_past at sections symbols names s past =
-    or_later (nat_lt 4096 (section_count sections s.tables)) (has_long sections symbols names s) (nat_lt 4194304 (whole_size at sections symbols names s))
+    or_later (nat_lt MOST_SECTIONS (section_count sections s.tables)) (has_long sections symbols names s) (nat_lt MOST_FILE_BYTES (whole_size at sections symbols names s))
     (past_from at (whole_size at sections symbols names s) past (omega arith))
 
-pub large_past_end : (text : List ℕ) (sections : List AsmSection) (symbols : List Symbol) (s : Summary) → Tells text s sections → 4194304 < sections_end 52 sections → true ≡ is_large text sections symbols
+pub large_past_end : (text : List ℕ) (sections : List AsmSection) (symbols : List Symbol) (s : Summary) → Tells text s sections → MOST_FILE_BYTES < sections_end 52 sections → true ≡ is_large text sections symbols
 large_past_end text sections symbols s tells past =
     sym (passes_past (sections_end 52 sections) (length sections) (length symbols) (names_total text symbols) s past) ∙ large_told text sections symbols s tells

@@ -5,6 +5,7 @@ use Rattle.std.specs.Option.{option_and_then}
 use Rattle.std.proofs.Math.Nat.{le_antisymm, mul-add-div_right, mod-eq-sub-div-mul, div-mul-le_self}
 use Rattle.std.proofs.lemmas.Bool.Decides.{nat_tests}
 use Rattle.std.proofs.lemmas.Option.{IfSome_then}
+use Rattle.c6x_base.specs.declared.limits.TheConstants.{MOST_FILE_BYTES}
 use Rattle.c6x_spec.specs.Rounded.{IsRounded, rounded}
 use Rattle.c6x_spec.proofs.RoundedUp.{rounded_is_least}
 use Rattle.c6x_asm_object.specs.declared.asm_section.AsmSection.{AsmSection}
@@ -150,10 +151,10 @@ sections_above : (at : ℕ) (sections : List AsmSection) → at ≤ sections_end
 sections_above at [] = omega arith
 sections_above at (p ∷ sections) = omega (arith, end_above at (is_stored p.kind) p.align (length p.bytes), sections_above (section_end at p) sections)
 
-is_past_then : (m n : ℕ) → nat_lt 4194304 m ≡ true → m ≤ n → 4194304 < n
+is_past_then : (m n : ℕ) → nat_lt MOST_FILE_BYTES m ≡ true → m ≤ n → MOST_FILE_BYTES < n
 is_past_then m n past less = grind (arith, nat_tests)
 
-small_if : (past : Bool) (end : ℕ) (sections : List AsmSection) → nat_lt 4194304 end ≡ past → Ends end (small_end end sections) sections → Ends end (option_and_then (λ e. small_end e sections) (cond past None (Some end))) sections
+small_if : (past : Bool) (end : ℕ) (sections : List AsmSection) → nat_lt MOST_FILE_BYTES end ≡ past → Ends end (small_end end sections) sections → Ends end (option_and_then (λ e. small_end e sections) (cond past None (Some end))) sections
 small_if true end sections is ends = is_past_then end (sections_end end sections) is (sections_above end sections)
 small_if false end sections is ends = ends
 
@@ -161,7 +162,7 @@ pub small_ends : (at : ℕ) (sections : List AsmSection) → Ends at (small_end 
 small_ends at [] = refl
 small_ends at (p ∷ sections) =
     then_ends at p sections (option_and_then (λ e. small_end e sections) (small (section_end at p)))
-    (small_if (nat_lt 4194304 (section_end at p)) (section_end at p) sections refl (small_ends (section_end at p) sections))
+    (small_if (nat_lt MOST_FILE_BYTES (section_end at p)) (section_end at p) sections refl (small_ends (section_end at p) sections))
   where
     then_ends : (from : ℕ) (q : AsmSection) (rest : List AsmSection) (o : Option ℕ) → Ends (section_end from q) o rest → Ends from o (q ∷ rest)
     then_ends from q rest None ends = ends

@@ -1,4 +1,5 @@
 ghost use Rattle.std.specs.Prelude.{◌≡◌, ℕ, ◌+◌, ◌<◌, ◌^◌, ◌≤◌, max, length, Some, IfSome};
+ghost use Rattle.c6x_base.specs.declared.limits.TheConstants.{MOST_FILE_BYTES};
 ghost use Rattle.c6x_asm_limits.specs.Places.{Ends, Reaches, both, end_of, is_stored, kept, section_end, section_stretch, small, small_end};
 
 use crate::stretch::Stretch;
@@ -77,7 +78,7 @@ fn end_of(s: Stretch, at: u32) -> u64
 // No place past the most bytes of a file.
 fn small(at: u64) -> Option<u64>
     ensures is { result ≡ small at }
-    ensures few { IfSome result (λ end. end ≤ 4194304) }
+    ensures few { IfSome result (λ end. end ≤ MOST_FILE_BYTES) }
 {
     if at > u64::from(MOST_FILE_BYTES) {
         None
@@ -88,7 +89,7 @@ fn small(at: u64) -> Option<u64>
 
 #[tactic(auto, unfolding(crate::specs::Places::place_behind))]
 fn section_end(at: u64, section: &AsmSection) -> u64
-    requires { at ≤ 4194304 }
+    requires { at ≤ MOST_FILE_BYTES }
     ensures { result ≡ section_end at section.now }
 {
     if is_stored(section.kind) {
@@ -100,9 +101,9 @@ fn section_end(at: u64, section: &AsmSection) -> u64
 
 // A walk over the sections.
 fn small_end(at: u64, sections: &[AsmSection]) -> Option<u64>
-    requires { at ≤ 4194304 }
+    requires { at ≤ MOST_FILE_BYTES }
     ensures is { result ≡ small_end at sections.now }
-    ensures few { IfSome result (λ end. end ≤ 4194304) }
+    ensures few { IfSome result (λ end. end ≤ MOST_FILE_BYTES) }
 {
     let mut end = at;
     for section in sections {
