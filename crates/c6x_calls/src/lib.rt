@@ -9,6 +9,8 @@ mod assembling;
 #[cfg(test)]
 mod long_texts;
 #[cfg(test)]
+mod objects;
+#[cfg(test)]
 mod refused_texts;
 #[cfg(test)]
 mod written_objects;

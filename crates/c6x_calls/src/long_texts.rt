@@ -1,4 +1,5 @@
-use c6x_asm::{AsmError, AsmRule, assemble};
+use crate::objects::{object_of, section_count};
+use c6x_asm::{AsmError, AsmRule};
 use std::alloc::{AllocError, Global};
 use std::test::Fail;
 
@@ -14,8 +15,8 @@ fn outcome_of(alloc: Global, text: &[u8]) -> Outcome {
     if text.len() > 1_000_000 {
         return Outcome::Other;
     }
-    match assemble(alloc, text) {
-        Ok(file) => Outcome::Sections(file.sections.as_slice().len()),
+    match object_of(alloc, text) {
+        Ok(file) => Outcome::Sections(section_count(&file)),
         Err(
             AsmError::Rule {
                 rule: AsmRule::Large,

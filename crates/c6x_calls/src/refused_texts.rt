@@ -1,16 +1,11 @@
-use c6x_asm::{AsmError, AsmRule, assemble};
+use crate::objects::broken_rule;
+use c6x_asm::AsmRule;
 use std::alloc::Global;
 use std::test::Fail;
 
 // Whether the first rule that a text breaks is this one, on this line.
 fn is_refused(alloc: Global, text: &[u8], wanted: AsmRule, on: u32) -> bool {
-    if text.len() > 1000 {
-        return false;
-    }
-    match assemble(alloc, text) {
-        Err(AsmError::Rule { rule, line }) => rule == wanted && line == on,
-        _ => false,
-    }
+    broken_rule(alloc, text) == Some((wanted, on))
 }
 
 // The first of these rows, each a text and a line, whose text breaks no rule, another one first, or this one elsewhere.
