@@ -18,7 +18,7 @@ use Rattle.c6x_asm_form.specs.Filing.{Named, file_of, named_section, named_relas
 use Rattle.c6x_asm_form.specs.Headers.{null_section, table_section}
 use Rattle.c6x_asm_form.specs.Limits.{is_large, is_long, passes_limit}
 use Rattle.c6x_asm_form.specs.Symbols.{names_table, symbol_numbers, symbol_table}
-use Rattle.c6x_asm_form.proofs.Lengths.{length-symbol_table}
+use Rattle.c6x_asm_form.proofs.Lengths.{length-sections_from, length-symbol_table}
 use Rattle.c6x_asm_limits.specs.declared.summary.Summary.{Summary}
 use Rattle.c6x_asm_limits.specs.Places.{sections_end}
 use Rattle.c6x_asm_limits.specs.Passing.{has_long, name_bytes, passes, section_count, symbol_bytes, whole_size}
@@ -28,10 +28,6 @@ use Rattle.c6x_asm_limits.proofs.Sections.{any_long, end_table, ends_all, ends_a
 use Rattle.c6x_asm_limits.proofs.Summaries.{Tells}
 
 -- the sections of the file
-length-sections_from : (at : ℕ) (named : List Named) → length (sections_from at named) ≡ length named
-length-sections_from at [] = refl
-length-sections_from at (n ∷ named) = ap suc (length-sections_from (at + (length n.name + 1)) named)
-
 long-sections_from : (at : ℕ) (named : List Named) → list_any is_long (sections_from at named) ≡ any_long named
 unfolding is_long
 long-sections_from at [] = refl
