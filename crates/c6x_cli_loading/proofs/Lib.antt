@@ -1,0 +1,4 @@
+pub mod Deciding
+pub mod Counts
+pub mod Taking
+pub mod ImageLemmas
