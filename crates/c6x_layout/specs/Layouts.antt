@@ -12,6 +12,7 @@ use Rattle.c6x_plan.specs.declared.link_plan.LinkPlan.{LinkPlan}
 use Rattle.c6x_symbols.specs.Bindings.{BoundName}
 use Rattle.c6x_symbols.specs.Rules.{Refusal, ◌<|>◌, must, refusal}
 use Rattle.c6x_symbols.specs.declared.link_rule.LinkRule.TheVariants.{Large}
+use Rattle.c6x_layout.specs.Alignments.{alignments_refusal}
 use Rattle.c6x_layout.specs.Dynamics.{filled_count, module_names, shared_numbers, strings_of_link}
 use Rattle.c6x_layout.specs.Places.{CommonRoom, added, common_room, commons_end, commons_from, in_far_bytes, in_far_zeros, in_near_bytes, in_near_zeros, in_text, places_end, places_from}
 use Rattle.c6x_layout.specs.declared.layout.Layout.{Layout}
@@ -150,3 +151,12 @@ size_refusal l =
     must (nat_le (text_size (counts_of l)) MOST_SEGMENT_BYTES) (refusal Large 0 (most_32 (text_size (counts_of l))))
     <|> must (nat_le (data_end l - table_at l) MOST_SEGMENT_BYTES) (refusal Large 0 (most_32 (data_end l - table_at l)))
     <|> word_refusal l
+
+-- K3 and then K4.
+unfoldable pub layout_refusal : Laying → Option Refusal
+layout_refusal l = alignments_refusal l.objects <|> size_refusal l
+
+-- What is laid for objects, bindings, words and stubs by a plan.
+abbrev pub laying : List File → List BoundName → List Wanted → List ℕ → LinkPlan → Laying
+laying objects bindings words stubs plan =
+    record { objects = objects; bindings = bindings; words = words; stubs = stubs; plan = plan }

@@ -1,9 +1,9 @@
 pub mod Alignments
-pub mod Bounds
 pub mod Dynamics
 pub mod Groups
 pub mod Layouts
 pub mod Places
 pub mod RegionRows
 pub mod Regions
+pub mod Shared
 pub use Rattle.c6x_layout.specs.declared.limits.TheConstants as Limits

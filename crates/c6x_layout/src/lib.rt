@@ -3,6 +3,7 @@
 
 mod aligning;
 mod commons;
+mod counting;
 mod ends;
 mod group;
 mod layout;
@@ -10,6 +11,10 @@ pub mod limits;
 mod place;
 mod placing;
 mod regions;
+mod shared_names;
+mod sizing;
+mod spreading;
+mod strings;
 
 pub use layout::Layout;
 pub use place::Place;
