@@ -2,6 +2,7 @@ pub mod Aligned
 pub mod CommonsLaid
 pub mod Counted
 pub mod HeldNames
+pub mod Joined
 pub mod Laid
 pub mod Rows
 pub mod SharedCounts

@@ -1,4 +1,5 @@
 pub mod Alignments
+pub mod Codes
 pub mod Dynamics
 pub mod Groups
 pub mod Layouts

@@ -2,10 +2,12 @@
 #![tactic(auto)]
 
 mod aligning;
+mod code;
 mod commons;
 mod counting;
 mod ends;
 mod group;
+mod laying;
 mod layout;
 pub mod limits;
 mod place;

@@ -25,6 +25,7 @@ pub fn group_end(parts: &[Part], group: Group, from: u64) -> u64
     requires few { length parts.now ≤ 2 ^ 20 }
     requires room { from ≤ 2 ^ 62 }
     ensures value { result ≡ places_end from (filter (in_group group) parts.now) }
+    ensures above { from ≤ result }
     ensures near { result ≤ from + 2 ^ 53 }
 {
     let mut at = from;
@@ -38,6 +39,7 @@ pub fn group_end(parts: &[Part], group: Group, from: u64) -> u64
 fn end_with(at: u64, group: Group, part: &Part) -> u64
     requires { at < 2 ^ 63 }
     ensures value { result ≡ end_with (in_group group part.now) at part.now }
+    ensures above { at ≤ result }
     ensures near { result ≤ at + 2 ^ 33 }
 {
     if is_in(group, part) {

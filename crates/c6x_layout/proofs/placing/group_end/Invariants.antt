@@ -7,5 +7,6 @@ use Rattle.c6x_layout.proofs.placing.group_end.Given as goal
 abbrev pub invariant-loop-part : goal.invariant-loop-part
 invariant-loop-part l = record {
   value : places_end l.at (filter (in_group l.group) (drop l.part-index l.parts)) ≡ places_end l.from (filter (in_group l.group) l.parts);
+  above : l.from ≤ l.at;
   near : l.at ≤ l.from + 2 ^ 33 * l.part-index;
 }
