@@ -1,20 +1,18 @@
 -- The names of objects have no more bytes than a file may hold.
-use Rattle.std.proofs.Common.{◌≡◌, ℕ, ◌+◌, ◌≤◌, Bool, true, false, not, List, [], ◌∷◌, ◌++◌, Option, None, Some, length, take, drop, map, get_or, position, option_map, ◌==◌, cond, nat_le, ap, arith, if◌then◌else◌}
+use Rattle.std.proofs.Common.{◌≡◌, ℕ, ◌+◌, ◌≤◌, Bool, true, false, List, [], ◌∷◌, Option, None, Some, length, take, drop, map, get_or, position, option_map, ◌==◌, nat_le, ap, arith, if◌then◌else◌}
 use Rattle.std.proofs.lemmas.List.{length-drop, length-take}
 use Rattle.std.proofs.lemmas.List.Elements.{All-append, All-cons, All-filter, All-head, All-map, All-nil, All-tail, All-weaker}
 use Rattle.std.specs.Prelude.{All}
 use Rattle.c6x_base.specs.declared.limits.TheConstants.{MOST_HELD_BYTES}
 use Rattle.c6x_elf.specs.Attributes.{symbol_binding}
 use Rattle.c6x_elf.specs.Bindings.{Global, Local, Weak}
-use Rattle.c6x_elf.specs.Entries.{text_of}
 use Rattle.c6x_elf.specs.Lists.{symbols_of, symtab_of}
 use Rattle.c6x_elf.specs.Names.{name_of}
 use Rattle.c6x_elf.specs.Types.{Symbol, SymbolBinding}
 use Rattle.c6x_elf.specs.declared.file.File.{File}
-use Rattle.c6x_elf.specs.declared.section.Section.{Section}
 use Rattle.c6x_objects.specs.Objects.{IsObject}
 use Rattle.c6x_symbols.proofs.Counts.{text_small}
-use Rattle.c6x_symbols.specs.Bindings.{BoundName, bindings_of, bound_name}
+use Rattle.c6x_symbols.specs.Bindings.{bindings_of, bound_name}
 use Rattle.c6x_symbols.specs.Groups.{is_other, names_of}
 use Rattle.c6x_symbols.specs.Mentions.{Named, link_of, mention_by, mention_of, mentions_along, mentions_from, mentions_of, object_mentions, strings_from, strings_of, under_name}
 use Rattle.c6x_layout.specs.Shared.{IsHeldName}

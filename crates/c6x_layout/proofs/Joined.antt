@@ -1,17 +1,12 @@
 -- What is worked out apart is the layout.
-use Rattle.std.proofs.Common.{◌≡◌, ℕ, ◌+◌, ◌*◌, ◌-◌, ◌==◌, ◌≤◌, ◌<◌, ◌^◌, Bool, true, false, List, [], ◌∷◌, ◌++◌, Option, None, Some, is_some, length, map, refl, sym, ap, ◌∙◌, arith, length-append, if◌then◌else◌}
-use Rattle.std.proofs.lemmas.List.{length-map, map-append}
-use Rattle.c6x_dsbt.specs.declared.wanted.Wanted.{Wanted}
+use Rattle.std.proofs.Common.{◌≡◌, ℕ, ◌+◌, true, false, List, ◌++◌, length, map, ap, ◌∙◌, arith, length-append}
+use Rattle.std.proofs.lemmas.List.{map-append}
 use Rattle.c6x_elf.specs.Names.{name_table}
-use Rattle.c6x_elf.specs.declared.file.File.{File}
-use Rattle.c6x_linked.specs.declared.counts.Counts.{Counts}
-use Rattle.c6x_linked.specs.declared.limits.TheConstants.{TEXT_START}
 use Rattle.c6x_plan.specs.declared.link_plan.LinkPlan.{LinkPlan}
 use Rattle.c6x_symbols.specs.Bindings.{BoundName, exports_of, imports_of}
 use Rattle.c6x_layout.proofs.SharedCounts.{rows_size_append}
-use Rattle.c6x_layout.specs.Dynamics.{bound_name_at, filled_count, module_names, own_name, shared_names, shared_numbers, strings_of_link}
-use Rattle.c6x_layout.specs.Layouts.{Laying, code_end, counts_of, laying}
-use Rattle.c6x_layout.specs.Shared.{numbers_of, rows_size, shared_of}
+use Rattle.c6x_layout.specs.Dynamics.{bound_name_at, module_names, own_name, shared_names, shared_numbers, strings_of_link}
+use Rattle.c6x_layout.specs.Shared.{numbers_of, rows_size}
 
 -- two lists of names counted, the exports and the imports
 pub symbols_are : (bindings : List BoundName) → 3 + length (numbers_of true bindings) + length (numbers_of false bindings) ≡ 3 + length (shared_numbers bindings)

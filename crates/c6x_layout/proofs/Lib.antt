@@ -1,9 +1,12 @@
 pub mod Aligned
 pub mod CommonsLaid
 pub mod Counted
+pub mod Finished
 pub mod HeldNames
 pub mod Joined
 pub mod Laid
 pub mod Rows
 pub mod SharedCounts
+pub mod Sized
+pub mod SizesMade
 pub mod Spread

@@ -1,5 +1,5 @@
 -- Names counted, one name on.
-use Rattle.std.proofs.Common.{◌≡◌, ℕ, suc, ◌+◌, ◌<◌, ◌≤◌, Bool, true, false, List, [], ◌∷◌, ◌++◌, length, take, drop, get_or, map, refl, sym, ap, ◌∙◌, add-one, append_assoc, arith, length-append, if◌then◌else◌}
+use Rattle.std.proofs.Common.{◌≡◌, ℕ, ◌+◌, ◌<◌, ◌≤◌, Bool, true, false, List, [], ◌∷◌, ◌++◌, length, take, drop, get_or, map, ap, ◌∙◌, arith, length-append}
 use Rattle.std.proofs.lemmas.List.{append-nil, drop_all, take_more}
 use Rattle.std.proofs.lemmas.List.Elements.{All-get_or}
 use Rattle.std.proofs.lemmas.Grind.{flat_map-append}
@@ -10,7 +10,7 @@ use Rattle.c6x_elf.specs.Names.{name_row}
 use Rattle.c6x_symbols.proofs.Bound.{numbers_here, numbers_past}
 use Rattle.c6x_symbols.specs.Bindings.{BoundName, bound_at, no_name, numbers_where}
 use Rattle.c6x_layout.specs.Dynamics.{bound_name_at}
-use Rattle.c6x_layout.specs.Shared.{IsHeldName, is_shared, numbers_of, rows_size, shared_of, shared_with}
+use Rattle.c6x_layout.specs.Shared.{IsHeldName, is_shared, numbers_of, rows_size, shared_with}
 use Rattle.c6x_layout.specs.declared.shared_names.SharedNames.{SharedNames}
 
 pub rows_size_append : (xs ys : List (List ℕ)) → rows_size (xs ++ ys) ≡ rows_size xs + rows_size ys

@@ -18,9 +18,9 @@ code_of parts stubs = record {
 }
 
 pub record AreSmall (counts : Counts) : Type 0 where
-  pub code : counts.code ≤ 2 ^ 60
+  pub code : counts.code ≤ 2 ^ 54
   pub symbols : counts.symbols ≤ 2 ^ 40
-  pub strings : counts.strings ≤ 2 ^ 60
+  pub strings : counts.strings ≤ 2 ^ 55
   pub relas : counts.relas ≤ 2 ^ 40
   pub jumps : counts.jumps ≤ 2 ^ 40
   pub named : counts.named ≤ 2 ^ 40

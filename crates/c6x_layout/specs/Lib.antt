@@ -7,4 +7,5 @@ pub mod Places
 pub mod RegionRows
 pub mod Regions
 pub mod Shared
+pub mod Sizes
 pub use Rattle.c6x_layout.specs.declared.limits.TheConstants as Limits

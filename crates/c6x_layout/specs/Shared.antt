@@ -3,7 +3,7 @@ use Rattle.std.specs.Prelude.{ℕ, ◌+◌, ◌≤◌, Bool, true, false, List, 
 use Rattle.std.specs.List.{flat_map}
 use Rattle.c6x_base.specs.declared.limits.TheConstants.{MOST_HELD_BYTES}
 use Rattle.c6x_elf.specs.Names.{name_row}
-use Rattle.c6x_symbols.specs.Bindings.{BoundName, bound_at, is_exported, is_imported, numbers_where}
+use Rattle.c6x_symbols.specs.Bindings.{BoundName, is_exported, is_imported, numbers_where}
 use Rattle.c6x_layout.specs.Dynamics.{bound_name_at}
 use Rattle.c6x_layout.specs.declared.shared_names.SharedNames.{SharedNames}
 

@@ -1,4 +1,4 @@
-use Rattle.std.proofs.Common.{arith, ◌≤◌, ◌^◌, length}
+use Rattle.std.proofs.Common.{arith}
 use Rattle.c6x_layout.proofs.laying.counts_of.Goals as goal
 
 pub returns-clause-small : goal.returns-clause-small
