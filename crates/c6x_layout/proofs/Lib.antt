@@ -1,4 +1,5 @@
 pub mod Aligned
+pub mod Bounds
 pub mod CommonsLaid
 pub mod Counted
 pub mod Finished
