@@ -2,6 +2,7 @@
 #![tactic(auto)]
 
 mod modules;
+mod name_index;
 mod ranges;
 mod reading;
 mod survey;

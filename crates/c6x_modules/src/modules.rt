@@ -1,7 +1,8 @@
+use crate::name_index::{NameIndex, make_index};
 use crate::reading::read_module;
 use c6x_base::Name;
 use c6x_elf::File;
-use c6x_module::{DynSymbol, Module, ModuleError};
+use c6x_module::{Module, ModuleError};
 use std::alloc::Global;
 use std::marker::Model;
 
@@ -13,28 +14,31 @@ pub const MOST_OWNED_MODULES: u32 = 256;
 pub struct Modules {
     alloc: Global,
     modules: Vec<Module>,
+    indexes: Vec<NameIndex>,
 }
 
 impl Model for Modules {
     ghost use Rattle.std.specs.Prelude.{List};
     ghost use Rattle.c6x_module.specs.declared.module.Module.{Module as Member};
-    ghost use Rattle.c6x_modules.specs.Owned.{AreModules};
+    ghost use Rattle.c6x_modules.specs.Indexed.{IsOwner};
 
     ghost Value = { List Member };
 
     ghost view = { λ m. m.modules.items };
 
-    ghost invariant = { λ m. AreModules m.modules.items };
+    ghost invariant = { λ m. IsOwner m.modules.items m.indexes.items };
 }
 
 impl Modules {
-    ghost use Rattle.std.specs.Prelude.{◌≡◌, ◌<◌, ◌≤◌, [], length, Some, OnErr, OnOk, false};
+    ghost use Rattle.std.specs.Prelude.{◌≡◌, ◌<◌, ◌≤◌, ◌++◌, ◌∷◌, [], length, Some, IfErr, OnErr, OnOk, false};
     ghost use Rattle.std.specs.List.{slice_get};
     ghost use Rattle.c6x_module.specs.Lookups.{export_from, symbols_of};
     ghost use Rattle.c6x_module.specs.Valid.{IsValid};
     ghost use Rattle.c6x_base.specs.declared.limits.TheConstants.{MOST_SEGMENTS as most_segments};
     ghost use Rattle.c6x_module_rules.specs.Modules.{module_in};
     ghost use Rattle.c6x_module_rules.specs.Refusals.{Passes};
+    ghost use Rattle.c6x_module.specs.declared.module_error.ModuleError.TheVariants.{NoMemory};
+    ghost use Rattle.c6x_modules.specs.Indexed.{IsIndex};
     ghost use Rattle.c6x_modules.specs.Owned.{AreModules, IsNew, refusal_of, with_module};
     ghost use Rattle.c6x_modules.specs.declared.modules.TheConstants.{MOST_OWNED_MODULES as most};
 
@@ -45,6 +49,7 @@ impl Modules {
         Modules {
             alloc,
             modules: Vec::new(alloc),
+            indexes: Vec::new(alloc),
         }
     }
 
@@ -59,8 +64,28 @@ impl Modules {
         ensures kept { OnErr result (self.new ≡ self.old) }
     {
         let image = read_module(self.alloc, name, file)?;
-        self.modules.push(image)?;
-        Ok(())
+        let index = make_index(self.alloc, image.symbols.as_slice())?;
+        self.put(image, index)
+    }
+
+    /// Puts a module and its index behind the others, or neither.
+    fn put(&mut self, image: Module, index: NameIndex) -> Result<(), ModuleError>
+        requires few { length self.old < most }
+        requires fresh { IsNew self.old image.name }
+        requires valid { IsValid image }
+        requires index { IsIndex index.buckets.items image.symbols }
+        ensures put { OnOk result (self.new ≡ self.old ++ image ∷ []) }
+        ensures kept { OnErr result (self.new ≡ self.old) }
+        ensures memory { IfErr result (λ e. e ≡ NoMemory) }
+    {
+        self.indexes.push(index)?;
+        match self.modules.push(image) {
+            Ok(()) => Ok(()),
+            Err(error) => {
+                self.indexes.pop();
+                Err(ModuleError::from(error))
+            }
+        }
     }
 
     /// How many modules there are.
@@ -93,23 +118,7 @@ impl Modules {
         requires { number < length self.now }
         ensures { result ≡ export_from name.now 0 (symbols_of self.now number) }
     {
-        export(self.view(number).symbols.as_slice(), name)
+        let symbols = self.view(number).symbols.as_slice();
+        self.indexes[number as usize].find(symbols, name)
     }
-}
-
-ghost use Rattle.std.specs.Prelude.{◌≡◌, ◌^◌, ◌<◌, length};
-ghost use Rattle.c6x_module.specs.Lookups.{export_from};
-
-/// The lowest number of a symbol of this name that a look-up may find.
-#[tactic(auto, using(crate::proofs::Walks::export_more))]
-fn export(symbols: &[DynSymbol], name: &[u8]) -> Option<u32>
-    requires { length symbols.now < 2 ^ 32 }
-    ensures { result ≡ export_from name.now 0 symbols.now }
-{
-    for (number, symbol) in symbols.iter().enumerate() {
-        if symbol.is_export() && symbol.name.as_bytes() == name {
-            return Some(number as u32);
-        }
-    }
-    None
 }
