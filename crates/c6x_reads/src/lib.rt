@@ -13,4 +13,6 @@ mod files;
 #[cfg(test)]
 mod modules;
 #[cfg(test)]
+mod owners;
+#[cfg(test)]
 mod plans;
