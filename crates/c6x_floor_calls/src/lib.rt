@@ -13,6 +13,8 @@ mod entries;
 #[cfg(test)]
 mod packets;
 #[cfg(test)]
+mod policies;
+#[cfg(test)]
 mod relocations;
 #[cfg(test)]
 mod rows;

@@ -52,7 +52,7 @@ impl DrawnBySeed {
 impl Policy for DrawnBySeed {
     ghost use Rattle.c6x_policy.specs.declared.kind.Kind.TheVariants.{Drawn};
 
-    ghost seen = { λ p. record p { kind = Drawn } };
+    ghost chooser = { λ p. record p { kind = Drawn } };
 
     fn kind(&self) -> Kind {
         Kind::Drawn

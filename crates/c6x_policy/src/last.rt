@@ -47,7 +47,7 @@ impl LastFirst {
 impl Policy for LastFirst {
     ghost use Rattle.c6x_policy.specs.declared.kind.Kind.TheVariants.{Last};
 
-    ghost seen = { λ p. record p { kind = Last } };
+    ghost chooser = { λ p. record p { kind = Last } };
 
     fn kind(&self) -> Kind {
         Kind::Last

@@ -13,21 +13,21 @@ use crate::pick::Pick;
 /// For the kinds but [`Kind::Other`] the state says all that the policy will answer.
 pub trait Policy: Drop {
     /// The kind, the state, the last answer and how many answers there were.
-    ghost seen: { Self → Chooser };
+    ghost chooser: { Self → Chooser };
 
     /// The kind.
     fn kind(&self) -> Kind
-        ensures { result ≡ (seen self.now).kind };
+        ensures { result ≡ (chooser self.now).kind };
 
     /// Begins for so many processes, with turns of at most `quantum` cycles. The answers so far stay counted.
     fn begin(&mut self, processes: u32, quantum: u32, seed: u32)
         requires some { 1 ≤ processes }
         requires least { 1 ≤ quantum }
         requires most { quantum ≤ MOST_QUANTUM }
-        ensures { Begins processes quantum seed (seen self.old) (seen self.new) };
+        ensures { Begins processes quantum seed (chooser self.old) (chooser self.new) };
 
     /// Picks, where these processes are ready.
     fn choose(&mut self, ready: &[u32]) -> Pick
         requires { IsReady ready.now }
-        ensures { Chooses ready.now (seen self.old) (seen self.new) result };
+        ensures { Chooses ready.now (chooser self.old) (chooser self.new) result };
 }

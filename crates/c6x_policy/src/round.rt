@@ -50,7 +50,7 @@ impl RoundRobin {
 impl Policy for RoundRobin {
     ghost use Rattle.c6x_policy.specs.declared.kind.Kind.TheVariants.{Round};
 
-    ghost seen = { λ p. record p { kind = Round } };
+    ghost chooser = { λ p. record p { kind = Round } };
 
     fn kind(&self) -> Kind {
         Kind::Round

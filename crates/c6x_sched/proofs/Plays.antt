@@ -33,11 +33,11 @@ pub plays_first : (g : Game) (ps : List Process) (b : Memory) → AllStand ps b 
 plays_first g ps b stand = record { play = []; is = tt; stand = stand; left = λ named. refl }
 
 -- those that the code has as ready are those of the play
-open_is : (g : Game) (ps : List Process) (b : Memory) (play : List Played) → length ps ≡ g.count → AllStand ps b g.starts (counts_of g play) → ready_of ps ≡ open_of g play
+pub open_is : (g : Game) (ps : List Process) (b : Memory) (play : List Played) → length ps ≡ g.count → AllStand ps b g.starts (counts_of g play) → ready_of ps ≡ open_of g play
 open_is g ps b play count stand = all_open ps b g.starts (counts_of g play) stand ∙ ap (λ (m : ℕ). open_from g.starts (counts_of g play) 0 m) count
 
 -- a step is the turn that may come next
-next_is : (g : Game) (old new : System) (b c : Memory) (before after : Chooser) (turn : Turn) (play : List Played) → before.kind ≡ g.kind → quantum_of old ≡ g.quantum → length (processes_of old) ≡ g.count → AllStand (processes_of old) b g.starts (counts_of g play) → (IsTrue (is_named g.kind) → before.state ≡ state_of g play) → HasStepped old new b c before after turn → IsNext g play (told turn)
+pub next_is : (g : Game) (old new : System) (b c : Memory) (before after : Chooser) (turn : Turn) (play : List Played) → before.kind ≡ g.kind → quantum_of old ≡ g.quantum → length (processes_of old) ≡ g.count → AllStand (processes_of old) b g.starts (counts_of g play) → (IsTrue (is_named g.kind) → before.state ≡ state_of g play) → HasStepped old new b c before after turn → IsNext g play (told turn)
 next_is g old new b c before after turn play kind quantum count stand same step =
     let opens : ready_of (processes_of old) ≡ open_of g play = open_is g (processes_of old) b play count stand in
     let N : Kind → Type 0 = λ one. IsTrue (is_named one) in
@@ -54,7 +54,7 @@ next_is g old new b c before after turn play kind quantum count stand same step 
           ∙ ap (λ (xs : List ℕ). (pick_of g.kind (state_of g play) xs).0) opens;
     }
 
-state_is : (g : Game) (old new : System) (b c : Memory) (before after : Chooser) (turn : Turn) (play : List Played) → before.kind ≡ g.kind → length (processes_of old) ≡ g.count → AllStand (processes_of old) b g.starts (counts_of g play) → (IsTrue (is_named g.kind) → before.state ≡ state_of g play) → HasStepped old new b c before after turn → IsTrue (is_named g.kind) → after.state ≡ state_of g (told turn ∷ play)
+pub state_is : (g : Game) (old new : System) (b c : Memory) (before after : Chooser) (turn : Turn) (play : List Played) → before.kind ≡ g.kind → length (processes_of old) ≡ g.count → AllStand (processes_of old) b g.starts (counts_of g play) → (IsTrue (is_named g.kind) → before.state ≡ state_of g play) → HasStepped old new b c before after turn → IsTrue (is_named g.kind) → after.state ≡ state_of g (told turn ∷ play)
 state_is g old new b c before after turn play kind count stand same step is =
     let opens : ready_of (processes_of old) ≡ open_of g play = open_is g (processes_of old) b play count stand in
     let N : Kind → Type 0 = λ one. IsTrue (is_named one) in

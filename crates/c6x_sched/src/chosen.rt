@@ -6,7 +6,7 @@ use c6x_policy::{Pick, Policy};
 /// The policy's answer, where these processes are ready.
 pub(crate) fn chosen(policy: &mut Box<dyn Policy>, ready: &[u32]) -> Pick
     requires { IsReady ready.now }
-    ensures { Chooses ready.now (seen policy.old) (seen policy.new) result }
+    ensures { Chooses ready.now (chooser policy.old) (chooser policy.new) result }
 {
     policy.choose(ready)
 }

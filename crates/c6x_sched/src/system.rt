@@ -77,7 +77,7 @@ impl System {
         requires on_board { AllLieOn board.old (processes_of self.old) }
         ensures none { IfNone result (ready_of (processes_of self.old) ≡ []) }
         ensures idle { IfNone result ((processes_of self.new ≡ processes_of self.old) × (quantum_of self.new ≡ quantum_of self.old) × (board.new ≡ board.old) × (policy.new ≡ policy.old)) }
-        ensures turned { IfSome result (HasStepped self.old self.new board.old board.new (seen policy.old) (seen policy.new)) }
+        ensures turned { IfSome result (HasStepped self.old self.new board.old board.new (chooser policy.old) (chooser policy.new)) }
     {
         list_ready(&mut self.ready, &self.processes);
         if self.ready.as_slice().is_empty() {
@@ -98,14 +98,14 @@ impl System {
             → AllStand (processes_of self.old) board.old s n → AllHaveLived (processes_of self.new) board.new s }
         ensures played { (s : ℕ → Origin) (n : ℕ → ℕ) → AreApart (processes_of self.old)
             → AllStand (processes_of self.old) board.old s n
-            → HasPlayed (game_of (processes_of self.old) (quantum_of self.old) (seen policy.old) s n) (processes_of self.new) board.new (seen policy.new).state }
+            → HasPlayed (game_of (processes_of self.old) (quantum_of self.old) (chooser policy.old) s n) (processes_of self.new) board.new (chooser policy.new).state }
         ensures frame { AreFramed (processes_of self.old) board.old board.new }
         ensures apart { AreApart (processes_of self.old) → AreApart (processes_of self.new) }
         ensures lie { AllLieOn board.new (processes_of self.new) }
         ensures length { length (processes_of self.new) ≡ length (processes_of self.old) }
         ensures quantum { quantum_of self.new ≡ quantum_of self.old }
-        ensures kind { (seen policy.new).kind ≡ (seen policy.old).kind }
-        ensures answered { ready_of (processes_of self.old) ≢ [] → Rose (seen policy.old).answers (seen policy.new).answers }
+        ensures kind { (chooser policy.new).kind ≡ (chooser policy.old).kind }
+        ensures answered { ready_of (processes_of self.old) ≢ [] → Rose (chooser policy.old).answers (chooser policy.new).answers }
         ensures unasked { ready_of (processes_of self.old) ≡ [] → policy.new ≡ policy.old }
     {
         'turns: loop {

@@ -13,8 +13,8 @@ use Rattle.c6x_sched.proofs.system.System.run.Given as goal
 
 abbrev pub invariant-turns : goal.invariant-turns
 invariant-turns g l =
-    let now = (goal.Policy-dyn g (l.policy.vtable, l.policy.value)).seen l.policy.value in
-    let was = (goal.Policy-dyn g (l.fn.policy.vtable, l.fn.policy.value)).seen l.fn.policy.value in
+    let now = (goal.Policy-dyn g (l.policy.vtable, l.policy.value)).chooser l.policy.value in
+    let was = (goal.Policy-dyn g (l.fn.policy.vtable, l.fn.policy.value)).chooser l.fn.policy.value in
     record {
       lie : AllLieOn l.board (processes_of l.self);
       kind : now.kind ≡ was.kind;
