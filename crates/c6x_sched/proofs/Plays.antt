@@ -140,3 +140,9 @@ lived_end g ps b state none k = λ i p is.
       ended = over;
       ran = has_run p b (g.starts i) (counts_of g k.play i) over.end stand (stands_within p b (g.starts i) (counts_of g k.play i) stand p.sound) over.is;
     }
+
+pub areas_first : (ps : List Process) (k : ℕ) (p q : Process) → slice_get ps k ≡ Some p → slice_get ps k ≡ Some q → areas_of q ≡ areas_of p
+areas_first ps k p q is_p is_q =
+    let both : Some q ≡ Some p = sym is_q ∙ is_p in
+    let one : q ≡ p = cc in
+    ap areas_of one

@@ -1,0 +1,4 @@
+pub mod TurnLines
+pub mod Told
+pub mod Boards
+pub mod Laws
