@@ -76,7 +76,7 @@ ranges_left big modules word address ks bs rs i d e r before after a b c is on =
 pub ready_more : (modules : List Module) (ks : List ℕ) (rs : List (List Target)) (i d : ℕ) (r : List Target) → i < length ks → i < length rs → AreReady modules (drop i ks) (drop i rs) → IsReady modules (get_or ks i d) (get_or rs i r) × AreReady modules (drop (i + 1) ks) (drop (i + 1) rs)
 ready_more modules ks rs i d r a b ready = rw (drop_more ks i d a, drop_more rs i r b) at ready
 
-image_length : (big : Bool) (m : Module) (word : ℕ → ℕ) (address : Target → ℕ) (ts : List Target) → IsValid m → length (data_image big m word address ts).bytes ≡ m.memory.memsz
+pub image_length : (big : Bool) (m : Module) (word : ℕ → ℕ) (address : Target → ℕ) (ts : List Target) → IsValid m → length (data_image big m word address ts).bytes ≡ m.memory.memsz
 unfolding data_image
 image_length big m word address ts valid =
     filled_size (data_parts big m word address ts) (file_image m) (data_on big m word address ts valid) ∙ length_filled m.memory valid.memory

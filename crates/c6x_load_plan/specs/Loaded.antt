@@ -1,5 +1,5 @@
 -- What the memory holds when the processes of a plan start.
-use Rattle.std.specs.Prelude.{◌≡◌, ℕ, ◌+◌, ◌-◌, ◌<◌, Bool, List, [], ◌∷◌, ◌++◌, length, replicate, slice_get, slice_index, Option, None, Some}
+use Rattle.std.specs.Prelude.{◌≡◌, ℕ, ◌+◌, ◌-◌, ◌^◌, ◌<◌, ◌≤◌, Bool, List, [], ◌∷◌, ◌++◌, length, replicate, slice_get, slice_index, Option, None, Some}
 use Rattle.c6x_spec.specs.Parts.{Part}
 use Rattle.c6x_machine.specs.declared.start.Start.{Start}
 use Rattle.c6x_module.specs.declared.module.Module.{Module}
@@ -84,6 +84,16 @@ starts_of modules texts (plan ∷ plans) [] = []
 starts_of modules texts (plan ∷ plans) (seat ∷ seats) =
     start_of modules plan texts seat ∷ starts_of modules texts plans seats
 
+-- A stack has a double word at least.
+abbrev pub HasStack : ProcessPlan → Type 0
+HasStack plan = 8 ≤ plan.stack
+
+-- The stacks end below 2^32.
+abbrev pub AreStacked : List ProcessPlan → List Seat → Type 0
+AreStacked [] seats = Unit {0}
+AreStacked (plan ∷ plans) [] = Unit {0}
+AreStacked (plan ∷ plans) (seat ∷ seats) = (seat.stack + plan.stack < 2 ^ 32) × AreStacked plans seats
+
 -- A member of a search list is a module, and has a target for each of its fields.
 pub record IsReady (modules : List Module) (number : ℕ) (targets : List Target) : Type 0 where
   pub inside : number < length modules
@@ -99,3 +109,9 @@ pub record IsSeated (modules : List Module) (bound : BoundProcess) (seat : Seat)
   pub bases : length bound.modules ≡ length seat.bases
   pub rows : length bound.modules ≡ length bound.targets
   pub ready : AreReady modules bound.modules bound.targets
+
+-- The same for each process of a plan.
+abbrev pub AreAllSeated : List Module → List BoundProcess → List Seat → Type 0
+AreAllSeated modules [] seats = Unit {0}
+AreAllSeated modules (bound ∷ bounds) [] = Unit {0}
+AreAllSeated modules (bound ∷ bounds) (seat ∷ seats) = IsSeated modules bound seat × AreAllSeated modules bounds seats

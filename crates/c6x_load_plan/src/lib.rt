@@ -6,11 +6,13 @@
 
 mod filling;
 mod loaded;
+mod loading;
 mod seats;
 mod starts;
 mod texts;
 
 pub use loaded::Loaded;
+pub use loading::load;
 pub use seats::fill_seat;
 pub use starts::start_of;
 pub use texts::load_texts;

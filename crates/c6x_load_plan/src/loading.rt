@@ -1,0 +1,118 @@
+ghost use Rattle.std.specs.Prelude.{◌≡◌, ◌+◌, ◌++◌, All, IfOk, OnErr, OnOk, false, length};
+ghost use Rattle.c6x_spec.specs.Memory.{CanStart};
+ghost use Rattle.c6x_spec.specs.Parts.{AreOn, HoldsParts, filled_with};
+ghost use Rattle.c6x_place.specs.Plans.{IsKnown, IsPlacement, bound_plans};
+ghost use Rattle.c6x_load_plan.specs.Loaded.{AreAllSeated, AreStacked, HasStack, plan_parts, seats_parts, starts_of, text_parts};
+
+use crate::loaded::Loaded;
+use crate::seats::fill_seat;
+use crate::starts::start_of;
+use crate::texts::load_texts;
+use c6x_base::Row;
+use c6x_bind::{Bound, BoundProcess};
+use c6x_board::Board;
+use c6x_machine::Start;
+use c6x_modules::Modules;
+use c6x_plan::ProcessPlan;
+use c6x_seats::{Placement, Seat};
+use std::alloc::{AllocError, Global};
+
+/// Writes the start bytes of all processes of a plan, and gives what each of them starts with. Every other byte of the
+/// memory is as before, which `start` says part by part. The memory for the answer is reserved first: after `AllocError`
+/// the board is as it was.
+pub fn load(
+    alloc: Global,
+    modules: &Modules,
+    processes: &[ProcessPlan],
+    bound: &Bound,
+    placement: &Placement,
+    board: &mut Board,
+) -> Result<Loaded, AllocError>
+    requires known { All (IsKnown modules.now) processes.now }
+    requires stacks { All HasStack processes.now }
+    requires bound { bound.now.processes ≡ bound_plans modules.now processes.now }
+    requires placed { IsPlacement modules.now processes.now bound.now.processes board.old.base (board.old.base + length board.old.bytes) placement.now }
+    ensures after { OnOk result (board.new ≡ filled_with (plan_parts false modules.now processes.now bound.now.processes placement.now) board.old) }
+    ensures start { OnOk result (HoldsParts (plan_parts false modules.now processes.now bound.now.processes placement.now) board.old board.new) }
+    ensures err { OnErr result (board.new ≡ board.old) }
+    ensures starts { IfOk result (λ loaded. loaded.starts ≡ starts_of modules.now placement.now.texts processes.now placement.now.seats) }
+{
+    let _ = (board.len(), modules.len());
+    let texts = placement.texts.as_slice();
+    let seats = placement.seats.as_slice();
+    let bounds = bound.processes.as_slice();
+    let starts = starts_of(alloc, modules, processes, texts, seats)?;
+    load_all(modules, processes, bounds, texts, seats, board);
+    Ok(Loaded {
+        starts: Row::of(starts),
+    })
+}
+
+/// What each process starts with.
+#[tactic(auto, using(crate::proofs::SeatWalks::starts_more, crate::proofs::SeatWalks::stacked_more))]
+fn starts_of(
+    alloc: Global,
+    modules: &Modules,
+    processes: &[ProcessPlan],
+    texts: &[Option<u32>],
+    seats: &[Seat],
+) -> Result<Vec<Start>, AllocError>
+    requires same { length processes.now ≡ length seats.now }
+    requires stacks { All HasStack processes.now }
+    requires stacked { AreStacked processes.now seats.now }
+    ensures { IfOk result (λ starts. starts.items ≡ starts_of modules.now texts.now processes.now seats.now) }
+{
+    let mut starts = Vec::new(alloc);
+    for (process, plan) in processes.iter().enumerate() {
+        starts.push(start_of(modules, plan, texts, &seats[process]))?;
+    }
+    Ok(starts)
+}
+
+/// Writes the texts and the seats.
+fn load_all(
+    modules: &Modules,
+    processes: &[ProcessPlan],
+    bounds: &[BoundProcess],
+    texts: &[Option<u32>],
+    seats: &[Seat],
+    board: &mut Board,
+)
+    requires texts { length modules.now ≡ length texts.now }
+    requires bounds { length processes.now ≡ length bounds.now }
+    requires seats { length processes.now ≡ length seats.now }
+    requires seated { AreAllSeated modules.now bounds.now seats.now }
+    requires room { AreOn board.old (text_parts modules.now texts.now ++ seats_parts false modules.now texts.now processes.now bounds.now seats.now) }
+    ensures { board.new ≡ filled_with (text_parts modules.now texts.now ++ seats_parts false modules.now texts.now processes.now bounds.now seats.now) board.old }
+{
+    load_texts(modules, texts, board);
+    fill_seats(modules, processes, bounds, texts, seats, board);
+}
+
+/// Writes the seats of the processes.
+fn fill_seats(
+    modules: &Modules,
+    processes: &[ProcessPlan],
+    bounds: &[BoundProcess],
+    texts: &[Option<u32>],
+    seats: &[Seat],
+    board: &mut Board,
+)
+    requires bounds { length processes.now ≡ length bounds.now }
+    requires seats { length processes.now ≡ length seats.now }
+    requires seated { AreAllSeated modules.now bounds.now seats.now }
+    requires room { AreOn board.old (seats_parts false modules.now texts.now processes.now bounds.now seats.now) }
+    ensures { board.new ≡ filled_with (seats_parts false modules.now texts.now processes.now bounds.now seats.now) board.old }
+{
+    for (process, plan) in processes.iter().enumerate() {
+        fill_seat(
+            false,
+            modules,
+            plan,
+            &bounds[process],
+            texts,
+            &seats[process],
+            board,
+        );
+    }
+}
