@@ -12,5 +12,5 @@ mod slots;
 mod table;
 
 pub use address::moved;
-pub use laws::data_holds;
+pub use laws::{data_holds, ranges_are_read_back};
 pub use range::{fill_data, fill_segment};
