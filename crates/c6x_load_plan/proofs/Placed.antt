@@ -32,7 +32,7 @@ use Rattle.c6x_load_plan.proofs.Walks.{image_length, length_zeros}
 same_module : (a b : Module) → Some a ≡ Some b → a ≡ b
 same_module a b is = cc
 
-valid_at : (modules : List Module) → All IsValid modules → (k : ℕ) (m : Module) → slice_get modules k ≡ Some m → IsValid m
+pub valid_at : (modules : List Module) → All IsValid modules → (k : ℕ) (m : Module) → slice_get modules k ≡ Some m → IsValid m
 valid_at [] valid k m is = absurd (cc)
 valid_at (x ∷ modules) valid zero m is =
     let P : Module → Type 0 = λ (n : Module). IsValid n in
@@ -180,6 +180,7 @@ stacked modules (p ∷ plans) (b ∷ bounds) (s ∷ seats) cursor end last lengt
 -- all together
 pub record Stands (big : Bool) (modules : List Module) (plans : List ProcessPlan) (bounds : List BoundProcess) (m : Memory) (placement : Placement) : Type 0 where
   pub texts : length modules ≡ length placement.texts
+  pub each : length plans ≡ length bounds
   pub seats : length plans ≡ length placement.seats
   pub seated : AreAllSeated modules bounds placement.seats
   pub stacked : AreStacked plans placement.seats
@@ -208,6 +209,7 @@ stands big modules plans bounds m placement same valid known below is =
     let last = placed_last (plan_rooms modules plans bounds) (plan_places placement) m.base end is.last (omega arith) is.placed in
     record {
       texts = sym users ∙ wants;
+      each = lengths;
       seats = lengths ∙ seats;
       seated = all;
       stacked = stacked modules plans bounds placement.seats parts.amid end is.last lengths below is.seated parts.second;

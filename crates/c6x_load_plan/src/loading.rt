@@ -3,6 +3,7 @@ ghost use Rattle.c6x_spec.specs.Memory.{CanStart};
 ghost use Rattle.c6x_spec.specs.Parts.{AreOn, HoldsParts, filled_with};
 ghost use Rattle.c6x_place.specs.Plans.{IsKnown, IsPlacement, bound_plans};
 ghost use Rattle.c6x_load_plan.specs.Loaded.{AreAllSeated, AreStacked, HasStack, plan_parts, seats_parts, starts_of, text_parts};
+ghost use Rattle.c6x_load_plan.specs.ReadBack.{AreSeatsReadBack};
 
 use crate::loaded::Loaded;
 use crate::seats::fill_seat;
@@ -34,6 +35,7 @@ pub fn load(
     requires placed { IsPlacement modules.now processes.now bound.now.processes board.old.base (board.old.base + length board.old.bytes) placement.now }
     ensures after { OnOk result (board.new ≡ filled_with (plan_parts false modules.now processes.now bound.now.processes placement.now) board.old) }
     ensures start { OnOk result (HoldsParts (plan_parts false modules.now processes.now bound.now.processes placement.now) board.old board.new) }
+    ensures read_back { OnOk result (AreSeatsReadBack board.new modules.now placement.now.texts bound.now.processes placement.now.seats) }
     ensures err { OnErr result (board.new ≡ board.old) }
     ensures starts { IfOk result (λ loaded. loaded.starts ≡ starts_of modules.now placement.now.texts processes.now placement.now.seats) }
 {

@@ -6,6 +6,8 @@ use Rattle.c6x_seats.specs.declared.seat.Seat.{Seat}
 use Rattle.c6x_load_plan.specs.Loaded.{AreAllSeated, AreStacked, plan_parts, seats_parts, text_parts}
 use Rattle.c6x_load_plan.proofs.Placed.{stands}
 use Rattle.c6x_load_plan.proofs.Walks.{held_after}
+use Rattle.c6x_load_plan.proofs.Backs.{holds_back, seats_back}
+use Rattle.c6x_spec.proofs.PartsHeld.{on_back}
 use Rattle.c6x_load_plan.proofs.loading.load.Goals as goal
 
 pub starts_of-requires-clause-same : goal.starts_of-requires-clause-same
@@ -56,3 +58,13 @@ returns-clause-start c =
     let st = stands false c.args.modules.now c.args.processes.now c.args.bound.now.processes c.args.board.now c.args.placement.now c.requires.bound c.len-2.ensures.kept.valid c.requires.known (omega arith) c.requires.placed in
     let after = rw (c.as_slice-texts.ensures, c.as_slice-seats.ensures, c.as_slice-bounds.ensures) at c.load_all.ensures in
     held_after (plan_parts false c.args.modules.now c.args.processes.now c.args.bound.now.processes c.args.placement.now) c.args.board.now c.load_all.new.board after st.on st.apart
+
+pub returns-clause-read_back : goal.returns-clause-read_back
+returns-clause-read_back c =
+    let gates = c.len.ensures.whole.below_gates in
+    let st = stands false c.args.modules.now c.args.processes.now c.args.bound.now.processes c.args.board.now c.args.placement.now c.requires.bound c.len-2.ensures.kept.valid c.requires.known (omega arith) c.requires.placed in
+    let after = rw (c.as_slice-texts.ensures, c.as_slice-seats.ensures, c.as_slice-bounds.ensures) at c.load_all.ensures in
+    let held = held_after (plan_parts false c.args.modules.now c.args.processes.now c.args.bound.now.processes c.args.placement.now) c.args.board.now c.load_all.new.board after st.on st.apart in
+    let texts = text_parts c.args.modules.now c.args.placement.now.texts in
+    let seats = seats_parts false c.args.modules.now c.args.placement.now.texts c.args.processes.now c.args.bound.now.processes c.args.placement.now.seats in
+    seats_back c.args.board.now c.load_all.new.board c.args.modules.now c.args.placement.now.texts c.args.processes.now c.args.bound.now.processes c.args.placement.now.seats st.each held.base c.len-2.ensures.kept.valid (on_back texts seats c.args.board.now st.on) (holds_back c.load_all.new.board texts seats held.own)
