@@ -17,7 +17,7 @@ use Rattle.c6x_place.proofs.Walks.{length_used}
 same_made : {X : Type 0} (a b : X) → Some a ≡ Some b → a ≡ b
 same_made a b is = cc
 
-some_step : (align : ℕ) → 1 ≤ max 32 align
+pub some_step : (align : ℕ) → 1 ≤ max 32 align
 some_step align = omega arith
 
 -- the texts behind those that stand already

@@ -5,8 +5,10 @@
 #![tactic(auto)]
 
 mod binding;
+mod laws;
 mod placing;
 mod used;
 
 pub use binding::bind;
+pub use laws::one_placement;
 pub use placing::place;

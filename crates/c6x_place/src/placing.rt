@@ -1,7 +1,7 @@
 ghost use Rattle.std.specs.Prelude.{◌≡◌, ◌+◌, ◌^◌, ◌<◌, ◌≤◌, [], length, IfOk};
 ghost use Rattle.c6x_spec.specs.Memory.{CanStart};
-ghost use Rattle.c6x_seats.specs.Places.{Placed};
-ghost use Rattle.c6x_place.specs.Plans.{IsPlacement, one_seat, placement_of, seats_from};
+ghost use Rattle.c6x_seats.specs.Places.{AreValid, Placed};
+ghost use Rattle.c6x_place.specs.Plans.{IsPlacement, one_seat, placement_of, plan_places, plan_rooms, seats_from};
 
 use crate::used::used_texts;
 use c6x_base::Row;
@@ -25,6 +25,7 @@ pub fn place(
     requires memory { CanStart base len }
     ensures value { Placed (λ placement. placement) result (placement_of modules.now processes.now bound.now.processes base (base + len)) }
     ensures stands { IfOk result (IsPlacement modules.now processes.now bound.now.processes base (base + len)) }
+    ensures valid { IfOk result (λ placement. AreValid base (base + len) (plan_rooms modules.now processes.now bound.now.processes) (plan_places placement)) }
 {
     placed(alloc, modules, processes, bound, base, len)
 }

@@ -114,7 +114,7 @@ fit_append (r ∷ rs) qs (a ∷ ps) ts (p ∷ parts) more first second =
 some_step : (least align : ℕ) → 1 ≤ least → 1 ≤ max least align
 some_step least align some = omega arith
 
-room_step : (o : Option Module) → 1 ≤ (room_or o).step
+pub room_step : (o : Option Module) → 1 ≤ (room_or o).step
 room_step None = omega arith
 room_step (Some m) = some_step 8 m.memory.align (omega arith)
 

@@ -1,5 +1,5 @@
 -- Where ranges stand: each at its least place behind the one before, and none past the end of the memory.
-use Rattle.std.specs.Prelude.{◌≡◌, ℕ, ◌+◌, ◌≤◌, nat_le, Bool, List, [], ◌∷◌, ◌++◌, Option, None, Some, Result, Ok, Err, if◌then◌else◌}
+use Rattle.std.specs.Prelude.{◌≡◌, ℕ, ◌+◌, ◌%◌, ◌≤◌, nat_le, Bool, List, [], ◌∷◌, ◌++◌, Option, None, Some, Result, Ok, Err, if◌then◌else◌}
 use Rattle.c6x_spec.specs.Options.{◌>>=◌}
 use Rattle.c6x_spec.specs.Places.{IsLeastPlace, least_place}
 use Rattle.c6x_module.specs.declared.module.Module.{Module}
@@ -16,6 +16,21 @@ ArePlaced cursor end [] (at ∷ places) last = ⊥
 ArePlaced cursor end (room ∷ rooms) [] last = ⊥
 ArePlaced cursor end (room ∷ rooms) (at ∷ places) last =
     IsLeastPlace cursor room.vaddr room.step at × (at + room.size ≤ end) × ArePlaced (at + room.size) end rooms places last
+
+-- No range begins before this address.
+abbrev pub AreBehind : ℕ → List ℕ → Type 0
+AreBehind from [] = Unit {0}
+AreBehind from (at ∷ places) = (from ≤ at) × AreBehind from places
+
+-- The ranges share no address, lie between the two addresses, and have moved by multiples of their steps.
+abbrev pub AreValid : ℕ → ℕ → List Room → List ℕ → Type 0
+AreValid base end [] [] = Unit {0}
+AreValid base end [] (at ∷ places) = ⊥
+AreValid base end (room ∷ rooms) [] = ⊥
+AreValid base end (room ∷ rooms) (at ∷ places) =
+    (base ≤ at) × (at + room.size ≤ end) × (at % room.step ≡ room.vaddr % room.step)
+    × AreBehind (at + room.size) places
+    × AreValid base end rooms places
 
 -- The same as values. The place of a range behind the cursor, where it ends in the memory.
 unfoldable pub room_at : ℕ → ℕ → Room → Option ℕ
