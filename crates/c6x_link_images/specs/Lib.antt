@@ -1,3 +1,4 @@
 pub mod Images
 pub mod Words
 pub mod Exports
+pub mod Sections
