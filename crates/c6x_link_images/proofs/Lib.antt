@@ -1,1 +1,3 @@
 pub mod SectionRows
+pub mod ImageOrder
+pub mod ImageParts

@@ -1,6 +1,6 @@
 -- Sections put in their places.
 use Rattle.std.proofs.Common.{◌≡◌, ℕ, suc, ◌+◌, ◌-◌, ◌<◌, ◌≤◌, Bool, true, false, List, [], ◌∷◌, ◌++◌, length, map, filter, get_or, drop, drop-cons, add-one, replicate, nat_le, nat_lt, refl, sym, ap, ◌∙◌, length-append, append_assoc, if◌then◌else◌, arith}
-use Rattle.std.proofs.lemmas.List.{append-nil, drop_all, get_or-map, get_or_past, length-map, length-replicate}
+use Rattle.std.proofs.lemmas.List.{append-nil, drop_all, map-id, get_or-map, get_or_past, length-map, length-replicate}
 use Rattle.std.proofs.lemmas.List.FromFn.{map-range_with_len_more}
 use Rattle.std.specs.List.{flat_map, range_with_len}
 use Rattle.c6x_elf.proofs.Layouts.{laid_more}
@@ -10,8 +10,9 @@ use Rattle.c6x_elf.specs.declared.file.File.{File}
 use Rattle.c6x_elf.specs.declared.section.Section.{Section}
 use Rattle.c6x_layout.specs.Regions.{sections_at, sections_in}
 use Rattle.c6x_layout.specs.declared.place.Place.{Place}
-use Rattle.c6x_link_images.specs.Images.{filled_to, section_part}
-use Rattle.c6x_link_images.specs.Sections.{is_between, parts_between}
+use Rattle.std.proofs.lemmas.List.Concat.{flat_map-append}
+use Rattle.c6x_link_images.specs.Images.{filled_to, section_part, stub_row}
+use Rattle.c6x_link_images.specs.Sections.{is_between, parts_between, stub_bytes}
 
 pub sections_here : (objects : List File) (object : ℕ) (d : File) → object < length objects → sections_at objects object ≡ (get_or objects object d).sections
 unfolding sections_at
@@ -58,3 +59,14 @@ parts_drop objects start low high places i d below =
 
 pub parts_done : (objects : List File) (start low high : ℕ) (places : List Place) (i : ℕ) → length places ≤ i → parts_between objects start low high (drop i places) ≡ []
 parts_done objects start low high places i past = ap (parts_between objects start low high) (drop_all i places past)
+
+range_push : (first n : ℕ) → range_with_len first (n + 1) ≡ range_with_len first n ++ (first + n) ∷ []
+range_push first n =
+    sym (map-id (range_with_len first (n + 1))) ∙ map-range_with_len_more (λ (x : ℕ). x) first n (first + n) refl
+    ∙ ap (λ ys. ys ++ (first + n) ∷ []) (map-id (range_with_len first n))
+
+pub stubs_more : (first n : ℕ) → stub_bytes first (n + 1) ≡ stub_bytes first n ++ stub_row (first + n)
+stubs_more first n =
+    ap (flat_map stub_row) (range_push first n)
+    ∙ flat_map-append stub_row (range_with_len first n) ((first + n) ∷ [])
+    ∙ ap (λ ys. stub_bytes first n ++ ys) (append-nil (stub_row (first + n)))

@@ -2,3 +2,4 @@ pub mod Images
 pub mod Words
 pub mod Exports
 pub mod Sections
+pub mod Worked

@@ -2,5 +2,6 @@
 //! Linking").
 #![tactic(auto)]
 
+mod images;
 mod sections;
 mod stubs;

@@ -1,4 +1,4 @@
-ghost use Rattle.std.specs.Prelude.{◌≡◌, ◌+◌, ◌-◌, ◌^◌, ◌≤◌, ◌++◌, ◌∷◌, List, OnOk, length, replicate, vec_len};
+ghost use Rattle.std.specs.Prelude.{◌≡◌, ◌+◌, ◌-◌, ◌^◌, ◌<◌, ◌≤◌, ◌++◌, ◌∷◌, List, OnOk, length, replicate, vec_len};
 ghost use Rattle.c6x_elf.specs.Entries.{text_of};
 ghost use Rattle.c6x_elf.specs.Laid.{InOrder, Part, laid};
 ghost use Rattle.c6x_layout.specs.Regions.{sections_at};
@@ -42,7 +42,8 @@ fn put_filled(out: &mut Vec<u8>, at: usize, len: u32, bytes: &[u8]) -> Result<()
 {
     pad(out, at)?;
     out.extend_from_slice(bytes)?;
-    pad_up(out, at + len as usize)
+    pad_up(out, at + len as usize)?;
+    Ok(())
 }
 
 /// Puts a section in its place in the segment that begins at `start`.

@@ -6,6 +6,7 @@ use c6x_elf::put_words;
 use std::alloc::{AllocError, Global};
 
 /// The stubs' instructions, the first one's word having this number.
+#[tactic(auto, using(crate::proofs::SectionRows::stubs_more))]
 pub fn stub_bytes(alloc: Global, first: u32, count: u32) -> Result<Vec<u8>, AllocError>
     requires { first + count ≤ 32768 }
     ensures { IfOk result (λ bytes. bytes.items ≡ stub_bytes first count) }
