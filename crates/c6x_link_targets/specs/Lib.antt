@@ -4,3 +4,4 @@ pub mod Targets
 pub mod LinkEntries
 pub mod SectionAddresses
 pub mod Symbols
+pub mod Rooms

@@ -24,11 +24,14 @@ abbrev pub number_of_bound : List BoundName → Wanted → ℕ
 number_of_bound bindings (Bound number) = import_symbol bindings number
 number_of_bound bindings (Local object symbol) = 0
 
+abbrev pub symbol_of_region : Region → ℕ → ℕ
+symbol_of_region Text import = 1
+symbol_of_region Data import = 2
+symbol_of_region Import import = import
+symbol_of_region Absolute import = 0
+
 abbrev pub dynamic_symbol : List BoundName → Region → Wanted → ℕ
-dynamic_symbol bindings Text wanted = 1
-dynamic_symbol bindings Data wanted = 2
-dynamic_symbol bindings Import wanted = number_of_bound bindings wanted
-dynamic_symbol bindings Absolute wanted = 0
+dynamic_symbol bindings region wanted = symbol_of_region region (number_of_bound bindings wanted)
 
 -- The address of that symbol in the file.
 abbrev pub dynamic_start : Working → Region → ℕ
