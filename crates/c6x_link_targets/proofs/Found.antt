@@ -1,5 +1,5 @@
 -- Addresses of sections, found.
-use Rattle.std.proofs.Common.{◌≡◌, ℕ, ◌+◌, ◌-◌, ◌<◌, ◌≤◌, List, [], ◌∷◌, Option, None, Some, length, drop, get_or, drop-cons, add-one, Bool, true, false, ◌==◌, ◌&&◌, if◌then◌else◌, refl, sym, ap, ◌∙◌, arith}
+use Rattle.std.proofs.Common.{◌≡◌, ℕ, ◌+◌, ◌<◌, ◌≤◌, List, [], ◌∷◌, Option, None, Some, length, drop, get_or, drop-cons, add-one, Bool, true, false, ◌==◌, ◌&&◌, if◌then◌else◌, refl, ap, ◌∙◌}
 use Rattle.std.proofs.Math.ListN.{drop_of_length-le}
 use Rattle.c6x_layout.specs.declared.place.Place.{Place}
 use Rattle.c6x_link_targets.specs.Addresses.{address_in}

@@ -1,2 +1,4 @@
 pub mod Found
 pub mod Symbols
+pub mod Counted
+pub mod Targeted

@@ -5,3 +5,4 @@ pub mod LinkEntries
 pub mod SectionAddresses
 pub mod Symbols
 pub mod Rooms
+pub mod TargetRows

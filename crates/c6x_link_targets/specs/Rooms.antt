@@ -1,5 +1,5 @@
 -- What the limits of a layout give.
-use Rattle.std.specs.Prelude.{ℕ, ◌+◌, ◌*◌, ◌^◌, ◌<◌, ◌≤◌, length}
+use Rattle.std.specs.Prelude.{◌+◌, ◌*◌, ◌^◌, ◌<◌, length}
 use Rattle.c6x_layout.specs.declared.limits.TheConstants.{STUB_BYTES}
 use Rattle.c6x_link_targets.specs.Working.{Working}
 

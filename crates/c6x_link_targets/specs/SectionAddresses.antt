@@ -1,5 +1,5 @@
 -- The addresses of sections by their numbers.
-use Rattle.std.specs.Prelude.{◌≡◌, ℕ, ◌==◌, ◌&&◌, Bool, List, [], ◌∷◌, Option, None, Some, if◌then◌else◌}
+use Rattle.std.specs.Prelude.{ℕ, ◌==◌, ◌&&◌, Bool, List, [], ◌∷◌, Option, None, Some, if◌then◌else◌}
 use Rattle.c6x_layout.specs.declared.place.Place.{Place}
 use Rattle.c6x_link_targets.specs.declared.section_key.SectionKey.{SectionKey}
 

@@ -1,5 +1,5 @@
 -- What the symbols of relocation entries are at link addresses (SPRAB89, "Dynamic Linking").
-use Rattle.std.specs.Prelude.{ℕ, ◌+◌, ◌*◌, List, Option, None, Some, length, take}
+use Rattle.std.specs.Prelude.{ℕ, ◌+◌, ◌*◌, List, Option, None, Some, length, nat_lt, take, if◌then◌else◌}
 use Rattle.std.specs.Prelude.{count_by}
 use Rattle.c6x_dsbt.specs.Needs.{stub_place, word_place}
 use Rattle.c6x_dsbt.specs.declared.wanted.Wanted.{Wanted}
@@ -19,9 +19,10 @@ use Rattle.c6x_link_targets.specs.declared.target.Target.{Target}
 unfoldable pub import_symbol : List BoundName → ℕ → ℕ
 import_symbol bindings number = 3 + length (exports_of bindings) + count_by is_imported (take number bindings)
 
--- The dynamic symbol by which the loader finds what moves: that of its segment, or the import's own.
+-- The dynamic symbol by which the loader finds what moves: that of its segment, or the import's own; there is none for a
+-- name without a number.
 abbrev pub number_of_bound : List BoundName → Wanted → ℕ
-number_of_bound bindings (Bound number) = import_symbol bindings number
+number_of_bound bindings (Bound number) = if nat_lt number (length bindings) then import_symbol bindings number else 0
 number_of_bound bindings (Local object symbol) = 0
 
 abbrev pub symbol_of_region : Region → ℕ → ℕ

@@ -3,6 +3,8 @@
 
 mod address;
 mod addresses;
+mod bound_names;
+mod entering;
 mod link;
 mod section_key;
 mod symbol_rows;
@@ -10,6 +12,8 @@ mod target;
 mod targets;
 
 pub use address::{bound_address, wanted_address};
+pub use bound_names::bound_targets;
+pub use entering::link_entries;
 pub use link::Link;
 pub use target::Target;
 pub use targets::target_of;
