@@ -1,12 +1,10 @@
 -- The parts of the two images stand in order.
-use Rattle.std.proofs.Common.{◌≡◌, ◌≢◌, ℕ, zero, suc, ◌+◌, ◌-◌, ◌*◌, ◌<◌, ◌≤◌, ◌==◌, Bool, true, false, List, [], ◌∷◌, ◌++◌, length, map, filter, get_or, nat_le, nat_lt, Option, None, Some, refl, sym, ap, ◌∙◌, subst, length-append, append_assoc, if◌then◌else◌, arith}
-use Rattle.std.proofs.lemmas.Bool.Decides.{nat_tests}
-use Rattle.std.proofs.lemmas.List.{append-nil, map-append}
-use Rattle.std.proofs.lemmas.List.Elements.{filter-append}
+use Rattle.std.proofs.Common.{◌≡◌, ℕ, ◌+◌, ◌-◌, ◌≤◌, Bool, true, false, List, [], ◌∷◌, ◌++◌, length, map, filter, replicate, refl, sym, ap, subst, length-append, arith}
+use Rattle.std.proofs.lemmas.List.{length-replicate}
 use Rattle.c6x_elf.specs.Entries.{text_of}
 use Rattle.c6x_elf.specs.Laid.{InOrder, Part, laid}
 use Rattle.c6x_elf.specs.declared.file.File.{File}
-use Rattle.c6x_layout.specs.Places.{AreApart, place_of, places_end, places_from, start_of}
+use Rattle.c6x_layout.specs.Places.{AreApart, places_end, places_from, start_of}
 use Rattle.c6x_layout.specs.Regions.{sections_at}
 use Rattle.c6x_layout.specs.declared.place.Place.{Place}
 use Rattle.c6x_layout.proofs.Laid.{start_above}
@@ -89,3 +87,24 @@ order_parts objects start a b (p ∷ ps) rest behind are filled order =
     let end = section_end objects start p here filled.0 in
     let P : ℕ → Type 0 = λ n. InOrder n (map (section_part objects start) ps ++ rest) in
     (omega (arith, first), subst P (sym end) (order_parts objects start (p.address + p.len) b ps rest (omega (arith, here)) are.1 filled.1 order))
+
+-- the end of parts in order, and how many bytes they make
+abbrev pub parts_end : ℕ → List Part → ℕ
+parts_end from [] = from
+parts_end from (part ∷ parts) = parts_end (part.at + length part.bytes) parts
+
+end_behind : (from : ℕ) (parts : List Part) → InOrder from parts → from ≤ parts_end from parts
+end_behind from [] order = omega arith
+end_behind from (part ∷ parts) order =
+    let later = end_behind (part.at + length part.bytes) parts order.1 in
+    let front = order.0 in
+    omega (arith, later, front)
+
+pub laid_length : (from : ℕ) (parts : List Part) → InOrder from parts → length (laid from parts) ≡ parts_end from parts - from
+laid_length from [] order = omega arith
+laid_length from (part ∷ parts) order =
+    let later = laid_length (part.at + length part.bytes) parts order.1 in
+    let end = end_behind (part.at + length part.bytes) parts order.1 in
+    let front = order.0 in
+    let gap : length (replicate {A = ℕ} (part.at - from) 0) ≡ part.at - from = length-replicate (part.at - from) 0 in
+    omega (arith, later, end, front, gap, length-append (replicate (part.at - from) 0) (part.bytes ++ laid (part.at + length part.bytes) parts), length-append part.bytes (laid (part.at + length part.bytes) parts))

@@ -1,7 +1,7 @@
 -- What the layout of a link gives for the parts of its images.
-use Rattle.std.proofs.Common.{◌≡◌, ◌≢◌, ℕ, zero, suc, ◌+◌, ◌-◌, ◌*◌, ◌<◌, ◌≤◌, ◌==◌, Bool, true, false, List, [], ◌∷◌, ◌++◌, length, map, filter, get_or, nat_le, nat_lt, Option, None, Some, refl, sym, ap, ◌∙◌, subst, cond, length-append, append_assoc, if◌then◌else◌, arith}
+use Rattle.std.proofs.Common.{◌≡◌, ℕ, ◌+◌, ◌-◌, ◌*◌, ◌<◌, ◌≤◌, ◌==◌, Bool, true, false, List, [], ◌∷◌, ◌++◌, length, map, filter, get_or, nat_le, nat_lt, Option, None, Some, refl, sym, ap, ◌∙◌, subst, cond, length-append, append_assoc, if◌then◌else◌, arith}
 use Rattle.std.proofs.lemmas.Bool.Decides.{nat_tests}
-use Rattle.std.proofs.lemmas.List.{append-nil, get_or_append_left, get_or-append-add, length-map}
+use Rattle.std.proofs.lemmas.List.{append-nil, get_or-append-add, length-map}
 use Rattle.std.proofs.lemmas.List.Elements.{filter-append}
 use Rattle.std.proofs.lemmas.List.FromFn.{length-range_with_len}
 use Rattle.std.specs.List.{enumerate_from, flat_map, range_with_len}
@@ -10,9 +10,9 @@ use Rattle.c6x_elf.proofs.EntryWalks.{text_here}
 use Rattle.c6x_elf.proofs.Unpacked.{own_length}
 use Rattle.c6x_elf.proofs.NumberRows.{length-word_row}
 use Rattle.c6x_elf.specs.Entries.{text_of}
-use Rattle.c6x_elf.specs.Form.{HasReadForm, IsSized, own_head}
+use Rattle.c6x_elf.specs.Form.{IsSized}
 use Rattle.c6x_elf.specs.Laid.{InOrder, Part, laid}
-use Rattle.c6x_elf.specs.Parts.{has_bytes, section_size}
+use Rattle.c6x_elf.specs.Parts.{has_bytes}
 use Rattle.c6x_elf.specs.Rows.{word_row}
 use Rattle.c6x_elf.specs.declared.file.File.{File}
 use Rattle.c6x_elf.specs.declared.section.Section.{Section}
@@ -23,8 +23,7 @@ use Rattle.c6x_layout.specs.Places.{AreApart, in_far_bytes, in_far_zeros, in_nea
 use Rattle.c6x_layout.specs.Regions.{sections_at}
 use Rattle.c6x_layout.specs.declared.limits.TheConstants.{MOST_STUB_WORD, PAGE, STUB_ALIGN, STUB_BYTES}
 use Rattle.c6x_layout.specs.declared.place.Place.{Place}
-use Rattle.c6x_linked.proofs.Fitting.{laid_length, parts_end}
-use Rattle.c6x_linked.specs.Places.{dynamic_at, entry_count, hash_at, jumps_at, relas_at, strings_at, symbols_at, text_size}
+use Rattle.c6x_linked.specs.Places.{dynamic_at, hash_at, jumps_at, relas_at, strings_at, symbols_at, text_size}
 use Rattle.c6x_linked.specs.declared.counts.Counts.{Counts}
 use Rattle.c6x_spec.specs.Rounded.{rounded}
 use Rattle.c6x_linked.specs.declared.limits.TheConstants.{MOST_SEGMENT_BYTES, TEXT_START}
@@ -32,13 +31,13 @@ use Rattle.c6x_objects.specs.Objects.{IsObject}
 use Rattle.c6x_objects.specs.Parts.{file_parts, part_at, part_of, parts_of}
 use Rattle.c6x_objects.specs.Sections.{is_allocated}
 use Rattle.c6x_objects.specs.declared.part.Part.{Part as Sect}
-use Rattle.c6x_link_images.specs.Images.{data_image, filled_to, first_stub_word, is_in_file, is_in_text, section_part, stub_parts, stub_row, stub_rows, stub_words, text_image, value_word, value_words}
+use Rattle.c6x_link_images.specs.Images.{data_image, first_stub_word, is_in_file, is_in_text, section_part, stub_parts, stub_row, stub_rows, stub_words, text_image, value_word, value_words}
 use Rattle.c6x_symbols.specs.Rules.{Refusal, ◌<|>◌, must, refusal}
 use Rattle.c6x_symbols.specs.declared.link_rule.LinkRule.TheVariants.{Large}
 use Rattle.c6x_link_images.specs.Sections.{is_between, parts_between}
 use Rattle.c6x_link_images.specs.Worked.{HasFewStubs, IsWorkedOut, laying_in}
 use Rattle.c6x_link_targets.specs.Working.{Working}
-use Rattle.c6x_link_images.proofs.ImageOrder.{AreFilled, apart_append, apart_filter, apart_least, apart_lower, apart_places, apart_wider, drop_every, filled_filter, keep_all, order_lower, order_parts, section_end}
+use Rattle.c6x_link_images.proofs.ImageOrder.{AreFilled, laid_length, parts_end, apart_append, apart_filter, apart_least, apart_places, apart_wider, drop_every, filled_filter, keep_all, order_lower, order_parts, section_end}
 use Rattle.c6x_link_images.proofs.SectionRows.{sections_here}
 
 -- each section of the objects has no more bytes than its part's length

@@ -1,3 +1,4 @@
 pub mod SectionRows
 pub mod ImageOrder
 pub mod ImageParts
+pub mod Listed

@@ -1,13 +1,12 @@
 -- Sections put in their places.
-use Rattle.std.proofs.Common.{◌≡◌, ℕ, suc, ◌+◌, ◌-◌, ◌<◌, ◌≤◌, Bool, true, false, List, [], ◌∷◌, ◌++◌, length, map, filter, get_or, drop, drop-cons, add-one, replicate, nat_le, nat_lt, refl, sym, ap, ◌∙◌, length-append, append_assoc, if◌then◌else◌, arith}
+use Rattle.std.proofs.Common.{◌≡◌, ℕ, ◌+◌, ◌-◌, ◌<◌, ◌≤◌, Bool, true, false, List, [], ◌∷◌, ◌++◌, length, map, get_or, drop, drop-cons, add-one, replicate, refl, sym, ap, ◌∙◌, length-append, append_assoc, arith}
 use Rattle.std.proofs.lemmas.List.{append-nil, drop_all, map-id, get_or-map, get_or_past, length-map, length-replicate}
 use Rattle.std.proofs.lemmas.List.FromFn.{map-range_with_len_more}
 use Rattle.std.specs.List.{flat_map, range_with_len}
 use Rattle.c6x_elf.proofs.Layouts.{laid_more}
 use Rattle.c6x_elf.specs.Entries.{text_of}
-use Rattle.c6x_elf.specs.Laid.{InOrder, Part, laid}
+use Rattle.c6x_elf.specs.Laid.{Part, laid}
 use Rattle.c6x_elf.specs.declared.file.File.{File}
-use Rattle.c6x_elf.specs.declared.section.Section.{Section}
 use Rattle.c6x_layout.specs.Regions.{sections_at, sections_in}
 use Rattle.c6x_layout.specs.declared.place.Place.{Place}
 use Rattle.std.proofs.lemmas.List.Concat.{flat_map-append}

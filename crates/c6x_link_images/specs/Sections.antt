@@ -1,5 +1,5 @@
 -- Sections of some addresses in their places.
-use Rattle.std.specs.Prelude.{ℕ, ◌-◌, ◌==◌, false, Bool, List, [], ◌∷◌, ◌++◌, filter, map, nat_le, nat_lt, if◌then◌else◌}
+use Rattle.std.specs.Prelude.{ℕ, ◌==◌, false, Bool, List, [], ◌∷◌, filter, map, Option, None, Some, nat_le, nat_lt, if◌then◌else◌}
 use Rattle.std.specs.List.{flat_map, range_with_len}
 use Rattle.c6x_elf.specs.Laid.{Part}
 use Rattle.c6x_elf.specs.declared.file.File.{File}
@@ -19,3 +19,8 @@ stub_bytes first count = flat_map stub_row (range_with_len first count)
 
 abbrev pub stub_part : ℕ → ℕ → ℕ → List Part
 stub_part at first count = if count == 0 then [] else record { at = at; bytes = stub_bytes first count } ∷ []
+
+-- What is there, as a list.
+abbrev pub one_of : {A : Type 0} → Option A → List A
+one_of None = []
+one_of (Some x) = x ∷ []

@@ -1,6 +1,8 @@
 -- What a link has worked out where no rule on sizes is broken.
-use Rattle.std.specs.Prelude.{◌≡◌, ◌≢◌, ℕ, ◌+◌, ◌≤◌, false, All, None, length}
+use Rattle.std.specs.Prelude.{◌≡◌, ◌≢◌, ℕ, ◌+◌, ◌^◌, ◌<◌, ◌≤◌, false, All, None, length}
 use Rattle.c6x_layout.specs.Layouts.{Laying, layout_of, size_refusal}
+use Rattle.c6x_dsbt.specs.declared.wanted.Wanted.{Wanted}
+use Rattle.c6x_link_targets.specs.Targets.{import_symbol, target_of}
 use Rattle.c6x_link_targets.specs.Working.{Working}
 use Rattle.c6x_objects.specs.Objects.{IsObject}
 use Rattle.c6x_link_images.specs.Images.{first_stub_word}
@@ -16,3 +18,8 @@ pub record IsWorkedOut (w : Working) : Type 0 where
 -- The number of each stub's word has its place in the stub's first instruction.
 pub record HasFewStubs (w : Working) : Type 0 where
   pub few : length w.stubs ≢ 0 → first_stub_word w + length w.stubs ≤ 32768
+
+-- Each dynamic symbol's number has its place in the info of a relocation entry.
+pub record HasFewSymbols (w : Working) : Type 0 where
+  pub imports : (number : ℕ) → import_symbol w.bindings number < 2 ^ 24
+  pub targets : (wanted : Wanted) → (target_of w wanted).symbol < 2 ^ 24

@@ -54,7 +54,7 @@ pub fn text_image(alloc: Global, link: &Link) -> Result<Vec<u8>, AllocError>
 }
 
 /// The data's bytes in the file before any field is set, where these are the bytes of the value words.
-fn data_with(alloc: Global, link: &Link, words: &[u8]) -> Result<Vec<u8>, AllocError>
+pub fn data_with(alloc: Global, link: &Link, words: &[u8]) -> Result<Vec<u8>, AllocError>
     requires worked { IsWorkedOut link.now }
     requires words { words.now ≡ word_row false (value_words link.now) }
     ensures { IfOk result (λ bytes. bytes.items ≡ data_image link.now) }

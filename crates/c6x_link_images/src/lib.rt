@@ -3,5 +3,13 @@
 #![tactic(auto)]
 
 mod images;
+mod loader_words;
 mod sections;
+mod sharing;
 mod stubs;
+mod values;
+
+pub use images::text_image;
+pub use loader_words::word_relas;
+pub use sharing::shared_of;
+pub use values::data_image;

@@ -24,9 +24,5 @@ fn put_stub(out: &mut Vec<u8>, number: u32) -> Result<(), AllocError>
     ensures { OnOk result (out.new.items ≡ out.old.items ++ stub_row number) }
 {
     let load = 0x0F80_006E + number * 256;
-    put_words(
-        out,
-        false,
-        &[load, 0x0000_6000, 0x007C_0362, 0x0000_8000],
-    )
+    put_words(out, false, &[load, 0x0000_6000, 0x007C_0362, 0x0000_8000])
 }

@@ -79,7 +79,7 @@ fn targets_of(
 
 /// What a symbol is at link addresses, where those of all names are told.
 #[tactic(auto, using(crate::proofs::Targeted::bound_there, crate::proofs::Targeted::bound_length, crate::proofs::Targeted::past_number))]
-fn target_in(link: &Link, bound: &[Target], wanted: Wanted) -> Target
+pub fn target_in(link: &Link, bound: &[Target], wanted: Wanted) -> Target
     requires room { HasRoom link.now }
     requires bound { bound.now ≡ bound_targets link.now (length link.now.bindings) }
     ensures { result ≡ target_of link.now wanted }

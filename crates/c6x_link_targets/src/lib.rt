@@ -13,7 +13,7 @@ mod targets;
 
 pub use address::{bound_address, wanted_address};
 pub use bound_names::bound_targets;
-pub use entering::link_entries;
+pub use entering::{link_entries, target_in};
 pub use link::Link;
 pub use target::Target;
 pub use targets::target_of;

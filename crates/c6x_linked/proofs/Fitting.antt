@@ -184,7 +184,7 @@ text_is p t places text tables is laid_so =
     laid_so ∙ rw (is, tables.hash, tables.symbols, tables.strings, tables.relas, tables.jumps, tables.dynamic) refl
 
 -- the end of parts in order
-abbrev pub parts_end : ℕ → List Part → ℕ
+abbrev parts_end : ℕ → List Part → ℕ
 parts_end from [] = from
 parts_end from (part ∷ parts) = parts_end (part.at + length part.bytes) parts
 
@@ -196,7 +196,7 @@ end_behind from (part ∷ parts) order =
     omega (arith, later, front)
 
 -- how long the text is
-pub laid_length : (from : ℕ) (parts : List Part) → InOrder from parts → length (laid from parts) ≡ parts_end from parts - from
+laid_length : (from : ℕ) (parts : List Part) → InOrder from parts → length (laid from parts) ≡ parts_end from parts - from
 laid_length from [] order = omega arith
 laid_length from (part ∷ parts) order =
     let later = laid_length (part.at + length part.bytes) parts order.1 in

@@ -1,7 +1,7 @@
-use Rattle.std.proofs.Common.{◌≡◌, ℕ, ◌+◌, ◌-◌, ◌*◌, ◌∙◌, ◌++◌, ◌∷◌, List, [], length, ap, sym, arith}
+use Rattle.std.proofs.Common.{◌-◌, ◌∙◌, ◌++◌, ◌∷◌, List, [], ap, sym, arith}
 use Rattle.std.proofs.lemmas.List.{append-nil}
 use Rattle.std.specs.Vec.{vec_len}
-use Rattle.c6x_elf.specs.Laid.{Part, laid}
+use Rattle.c6x_elf.specs.Laid.{Part}
 use Rattle.c6x_layout.specs.declared.layout.Layout.{Layout}
 use Rattle.c6x_link_images.proofs.ImageParts.{data_front, data_order, data_value, file_parts_are, words_behind}
 use Rattle.c6x_link_images.proofs.images.data_with.Goals as goal

@@ -1,7 +1,6 @@
-use Rattle.std.proofs.Common.{◌≡◌, ◌∙◌, ◌++◌, List, [], length, ap, sym}
+use Rattle.std.proofs.Common.{◌∙◌, ◌++◌, [], length, ap, sym}
 use Rattle.std.proofs.lemmas.List.{append-nil}
 use Rattle.std.specs.Vec.{vec_len}
-use Rattle.c6x_elf.specs.Laid.{Part, laid}
 use Rattle.c6x_layout.specs.declared.layout.Layout.{Layout}
 use Rattle.c6x_link_images.specs.Images.{stub_parts}
 use Rattle.c6x_link_images.proofs.ImageParts.{few_stubs, front_order, front_parts, text_length, text_value, whole_order}

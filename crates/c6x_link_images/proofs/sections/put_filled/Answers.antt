@@ -1,6 +1,6 @@
-use Rattle.std.proofs.Common.{◌≡◌, ℕ, ◌+◌, ◌-◌, ◌∙◌, ◌++◌, List, length, replicate, ap, sym, subst, arith}
+use Rattle.std.proofs.Common.{◌≡◌, ℕ, ◌+◌, ◌-◌, ◌∙◌, ◌++◌, length, replicate, ap, arith}
 use Rattle.std.specs.Vec.{vec_len}
-use Rattle.c6x_elf.specs.Laid.{Part, laid}
+use Rattle.c6x_elf.specs.Laid.{laid}
 use Rattle.c6x_link_images.specs.Images.{filled_to}
 use Rattle.c6x_link_images.proofs.SectionRows.{filled_length, filled_more}
 use Rattle.c6x_link_images.proofs.sections.put_filled.Goals as goal
