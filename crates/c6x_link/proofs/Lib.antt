@@ -1,1 +1,4 @@
 pub mod FieldsHeld
+pub mod EachEntry
+pub mod Inside
+pub mod Found
