@@ -2,3 +2,4 @@ pub mod FieldsHeld
 pub mod EachEntry
 pub mod Inside
 pub mod Found
+pub mod SectionsInside
