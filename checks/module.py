@@ -102,6 +102,21 @@ def forged():
     return files
 
 
+def long_names():
+    """Names of 4,194,304 bytes together, and of one byte more: many symbols share one long name."""
+    files = []
+    for more in (0, 1):
+        file = forge.module_file([1], symbols=[(b"x" * 65536, 4, 16, 0, 1)] + [(b"", 4, 16, 0, 1)] * (63 + more))
+        text = bytearray(file.segments[0].bytes)
+        at = dict(tags_of(file))[6] - file.segments[0].vaddr
+        for number in range(2, 65 + more):
+            struct.pack_into("<I", text, at + 16 * number, 65536 if number == 65 else 1)
+        file.segments[0].bytes = bytes(text)
+        file.segments[1].vaddr = 16 * D
+        files.append(with_tags(file, [(t, 16 * D if t == 0x70000000 else v) for t, v in tags_of(file)]))
+    return files
+
+
 def tags_of(file):
     dynamic = next(s for s in file.segments if s.kind == 2)
     return [struct.unpack_from("<II", dynamic.bytes, at) for at in range(0, len(dynamic.bytes) // 8 * 8, 8)]
@@ -264,7 +279,7 @@ def main():
     rng = random.Random(148)
     ours, theirs = forged() + linked(), foreign()
     whole = ours + theirs
-    cases = [elf.write_file(file) for file in whole]
+    cases = [elf.write_file(file) for file in whole + long_names()]
     while len(cases) < CASES:
         cases.append(elf.write_file(mutated(rng, rng.choice(theirs if theirs and rng.random() < .4 else ours))))
     kinds = {}
