@@ -73,7 +73,7 @@ filtered p P (x ∷ xs) each = either (p x) refl (filtered p P xs each)
     either true is rest = All-cons P x (filter p xs) (each x is) rest
     either false is rest = rest
 
-of_file : (object : ℕ) (file : File) → All (IsOf object file.sections) (file_entries false (object, file))
+pub of_file : (object : ℕ) (file : File) → All (IsOf object file.sections) (file_entries false (object, file))
 unfolding file_entries
 of_file object file =
     flat_all (IsOf object file.sections) (table_entries false object (symtab_of file.sections)) (filter (is_used file.sections) file.sections)

@@ -3,3 +3,4 @@ pub mod EachEntry
 pub mod Inside
 pub mod Found
 pub mod SectionsInside
+pub mod Filled

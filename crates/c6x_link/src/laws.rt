@@ -28,5 +28,4 @@ pub fn linked_fields_hold_their_values()
 
 /// Trial.
 #[tactic(auto, using(crate::proofs::EachEntry::all_entries, crate::proofs::Inside::lies_in, crate::proofs::Found::own_part, crate::proofs::SectionsInside::text_lies, crate::proofs::SectionsInside::far_in_data))]
-pub fn trial() {
-}
+pub fn trial() {}
