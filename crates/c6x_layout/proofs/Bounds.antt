@@ -1,12 +1,12 @@
 -- What holds of a layout that breaks no rule on sizes.
-use Rattle.std.proofs.Common.{◌≡◌, ℕ, ◌+◌, ◌*◌, ◌-◌, ◌==◌, ◌≤◌, ◌<◌, ◌^◌, Bool, true, false, IsTrue, List, length, Option, None, Some, nat_le, refl, sym, ap, ◌∙◌, arith, if◌then◌else◌}
+use Rattle.std.proofs.Common.{◌≡◌, ℕ, ◌+◌, ◌*◌, ◌-◌, ◌==◌, ◌≤◌, ◌<◌, ◌^◌, Bool, true, false, length, Option, None, nat_le, refl, arith, if◌then◌else◌}
 use Rattle.std.proofs.lemmas.Bool.Decides.{nat_tests}
 use Rattle.c6x_spec.specs.Rounded.{rounded}
 use Rattle.c6x_linked.specs.Places.{text_size}
 use Rattle.c6x_linked.specs.declared.limits.TheConstants.{MOST_SEGMENT_BYTES}
 use Rattle.c6x_symbols.specs.Rules.{Refusal, ◌<|>◌, must, refusal}
 use Rattle.c6x_symbols.specs.declared.link_rule.LinkRule.TheVariants.{Large}
-use Rattle.c6x_layout.proofs.Sized.{AreBelow, AreOrdered, below_limit, ordered}
+use Rattle.c6x_layout.proofs.Sized.{AreBelow, below_limit, ordered}
 use Rattle.c6x_layout.specs.Layouts.{Laying, code_end, counts_of, data_end, file_end, most_32, sections_end, size_refusal, stubs_at, table_at, text_end, word_refusal, words_end}
 use Rattle.c6x_layout.specs.Sizes.{segment_refusal}
 use Rattle.c6x_layout.specs.declared.limits.TheConstants.{STUB_ALIGN, STUB_BYTES}

@@ -1,3 +1,4 @@
+pub mod AlignBounds
 pub mod Aligned
 pub mod Bounds
 pub mod CommonsLaid
