@@ -360,15 +360,15 @@ text_length w is =
     last w is = omega (arith, is)
 
 -- the numbers of the stubs' words
-first_none : {A : Type 0} (a b : Option A) → (a <|> b) ≡ None → a ≡ None
+pub first_none : {A : Type 0} (a b : Option A) → (a <|> b) ≡ None → a ≡ None
 first_none None b is = refl
 first_none (Some x) b is = is
 
-later_none : {A : Type 0} (a b : Option A) → (a <|> b) ≡ None → b ≡ None
+pub later_none : {A : Type 0} (a b : Option A) → (a <|> b) ≡ None → b ≡ None
 later_none None b is = is
 later_none (Some x) b is = absurd (cc)
 
-must_true : (holds : Bool) (broken : Refusal) → must holds broken ≡ None → holds ≡ true
+pub must_true : (holds : Bool) (broken : Refusal) → must holds broken ≡ None → holds ≡ true
 unfolding must
 must_true true broken is = refl
 must_true false broken is = absurd (cc)

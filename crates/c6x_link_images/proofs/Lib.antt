@@ -2,3 +2,4 @@ pub mod SectionRows
 pub mod ImageOrder
 pub mod ImageParts
 pub mod Listed
+pub mod Few

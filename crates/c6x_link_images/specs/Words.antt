@@ -1,7 +1,8 @@
 -- The entries for the loader of the value words and of the stubs' words (SPRAB89, "Dynamic Relocation").
 use Rattle.std.specs.Prelude.{ℕ, ◌+◌, ◌*◌, List, [], ◌∷◌, pos, length, if◌then◌else◌}
 use Rattle.std.specs.Int.{cast_signed, w32}
-use Rattle.std.specs.List.{enumerate_from, flat_map}
+use Rattle.std.specs.List.{enumerate_from, flat_map, range_with_len}
+use Rattle.c6x_symbols.specs.Bindings.{BoundName}
 use Rattle.std.specs.Prelude.{map}
 use Rattle.c6x_dsbt.specs.declared.wanted.Wanted.{Wanted}
 use Rattle.c6x_elf.specs.Attributes.{rela_info}
@@ -39,3 +40,7 @@ stub_rela w x = record {
 
 unfoldable pub stub_relas : Working → List Rela
 stub_relas w = map (stub_rela w) (enumerate_from 0 w.stubs)
+
+-- For each name, and behind the last one, the number that the next import has among the dynamic symbols.
+abbrev pub import_symbols : List BoundName → List ℕ
+import_symbols bindings = map (import_symbol bindings) (range_with_len 0 (length bindings + 1))

@@ -3,6 +3,7 @@
 #![tactic(auto)]
 
 mod images;
+mod import_symbols;
 mod loader_words;
 mod sections;
 mod sharing;
@@ -10,6 +11,6 @@ mod stubs;
 mod values;
 
 pub use images::text_image;
-pub use loader_words::word_relas;
+pub use loader_words::{stub_relas, word_relas};
 pub use sharing::shared_of;
 pub use values::data_image;
