@@ -44,7 +44,7 @@ align_small object align none =
     small_case (align == 0) (is_power_of_two align) align refl (must_true (is_alignment align) (refusal Alignment object align) none)
 
 -- What passes a test is within the greatest alignment.
-abbrev Within : {A : Type 0} → (A → Bool) → (A → ℕ) → A → Type 0
+abbrev pub Within : {A : Type 0} → (A → Bool) → (A → ℕ) → A → Type 0
 Within test align x = test x ≡ true → align x ≤ MOST_ALIGN
 
 within_case : {A : Type 0} (b : Bool) (x : A) (xs : List A) (test : A → Option Refusal) → first_along test (cond b (x ∷ xs) xs) ≡ None → (b ≡ true → test x ≡ None) × (first_along test xs ≡ None)
@@ -60,7 +60,7 @@ all_within object keep align (x ∷ xs) none =
 abbrev section_align : Section → ℕ
 section_align s = s.align
 
-abbrev symbol_value : Symbol → ℕ
+abbrev pub symbol_value : Symbol → ℕ
 symbol_value s = s.value
 
 -- What the rule says of an object.
@@ -90,7 +90,7 @@ unfolding alignments_refusal
 objects_aligned objects none = files_aligned 0 objects none
 
 -- the parts of aligned objects
-abbrev IsSmall : Part → Type 0
+abbrev pub IsSmall : Part → Type 0
 IsSmall p = p.align ≤ MOST_ALIGN
 
 part_small : (k : ℕ) (file : File) (j : ℕ) (s : Section) → (is_allocated s ≡ true → s.align ≤ MOST_ALIGN) → All IsSmall (part_at k file (j, s))

@@ -1,6 +1,7 @@
 pub mod AlignBounds
 pub mod Aligned
 pub mod Bounds
+pub mod CommonBounds
 pub mod CommonsLaid
 pub mod Counted
 pub mod Finished
