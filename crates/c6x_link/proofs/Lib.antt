@@ -4,3 +4,4 @@ pub mod Inside
 pub mod Found
 pub mod SectionsInside
 pub mod Filled
+pub mod PartsSized
