@@ -5,3 +5,5 @@ pub mod Found
 pub mod SectionsInside
 pub mod Filled
 pub mod PartsSized
+pub mod EntriesInside
+pub mod Placed

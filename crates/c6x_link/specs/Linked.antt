@@ -4,8 +4,7 @@ use Rattle.std.specs.Prelude.{ℕ, ◌-◌, true, false, Bool, List, ◌++◌, O
 use Rattle.c6x_dsbt.specs.Plans.{tables_refusal}
 use Rattle.c6x_elf.specs.declared.file.File.{File}
 use Rattle.c6x_fields.specs.Fields.{patched}
-use Rattle.c6x_layout.specs.Alignments.{alignments_refusal}
-use Rattle.c6x_layout.specs.Layouts.{size_refusal}
+use Rattle.c6x_layout.specs.Layouts.{layout_refusal}
 use Rattle.c6x_layout.specs.Regions.{bound_region}
 use Rattle.c6x_link_entries.specs.Entries.{data_fields, dynamic_relas, entries_error, text_fields}
 use Rattle.c6x_link_entries.specs.Rules.{is_text}
@@ -67,16 +66,21 @@ or_zero (Some address) = address
 abbrev pub of_entry : EntryError → Refusal
 of_entry e = refusal e.rule e.object e.place
 
--- The first broken rule: the names (K1, K2), the plan's index and table (K5, K6), the alignments (K3), the sizes (K4), the
--- entry (K14), the relocation entries (K13, K7, K11, K12, K10, K9, K8).
+-- The first broken rule of what is worked out: the entry (K14), the relocation entries (K13, K7, K11, K12, K10, K9, K8).
+unfoldable pub entry_refusal : Working → Option Refusal
+entry_refusal w = option_map of_entry (entries_error (link_entries w))
+
+unfoldable pub file_refusal : Working → Option Refusal
+file_refusal w = must (is_some (entry_of w)) (refusal NoEntry 0 0) <|> entry_refusal w
+
+-- The first broken rule: the names (K1, K2), the plan's index and table (K5, K6), the alignments (K3), the sizes (K4), and
+-- then those of the file.
 unfoldable pub link_refusal : List File → LinkPlan → Option Refusal
 link_refusal objects plan =
     names_refusal (bindings_of objects)
     <|> tables_refusal plan.library plan.index plan.table
-    <|> alignments_refusal objects
-    <|> size_refusal (laying_of objects plan)
-    <|> must (is_some (entry_of (working_of objects plan))) (refusal NoEntry 0 0)
-    <|> option_map of_entry (entries_error (link_entries (working_of objects plan)))
+    <|> layout_refusal (laying_of objects plan)
+    <|> file_refusal (working_of objects plan)
 
 -- The bytes of text and of data: each bit is the last relocation entry's value among those whose field has the bit, else
 -- the object's bit; a field that the loader fills has the value 0.

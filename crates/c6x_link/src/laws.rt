@@ -25,7 +25,3 @@ pub fn linked_fields_hold_their_values()
     ensures text { (objects : List File) (plan : LinkPlan) (e : Entry) (kind : RelocKind) (value : ℕ) → e.reference.kind ≡ Some kind → value_of kind e.reference.inputs ≡ Ok value → is_dynamic e.reference ≡ false → IsLast (length (text_image (working_of objects plan))) (text_fields (link_entries (working_of objects plan))) (field_in e kind value) → HoldsValue (code_of (working_of objects plan)) (e.at + e.reference.offset) kind value }
     ensures content { (objects : List File) (plan : LinkPlan) (e : Entry) (kind : RelocKind) (value : ℕ) → e.reference.kind ≡ Some kind → value_of kind e.reference.inputs ≡ Ok value → is_dynamic e.reference ≡ false → IsLast (length (data_image (working_of objects plan))) (data_fields (link_entries (working_of objects plan))) (field_in e kind value) → HoldsValue (content_of (working_of objects plan)) (e.at + e.reference.offset) kind value }
 {}
-
-/// Trial.
-#[tactic(auto, using(crate::proofs::EachEntry::all_entries, crate::proofs::Inside::lies_in, crate::proofs::Found::own_part, crate::proofs::SectionsInside::text_lies, crate::proofs::SectionsInside::far_in_data))]
-pub fn trial() {}

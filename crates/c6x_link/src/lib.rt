@@ -5,5 +5,9 @@
 #![tactic(auto)]
 
 mod laws;
+mod setting;
+mod starting;
 
 pub use laws::{linked_fields_hold_their_values, links_are_files_or_rules};
+pub use setting::set_images;
+pub use starting::entry_of;
