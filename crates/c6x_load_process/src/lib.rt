@@ -5,7 +5,9 @@
 #![tactic(auto)]
 
 mod areas;
+mod laws;
 mod make;
 
 pub use areas::map_of;
+pub use laws::placed_are_below;
 pub use make::make_process;
