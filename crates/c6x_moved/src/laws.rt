@@ -1,0 +1,14 @@
+ghost use Rattle.c6x_moved.specs.Moved.{ShiftIsPlace, StartIsSum, TextShift, ValueStays};
+
+/// An entry's value is the same where its module stands, if the loader does not fill its field.
+pub fn value_stays()
+    ensures { ValueStays }
+{}
+
+/// A word that the loader fills is the sum of its entry; an address stands where its range does; a text moves by
+/// a multiple of 32.
+pub fn words_are_sums()
+    ensures start { StartIsSum }
+    ensures place { ShiftIsPlace }
+    ensures text { TextShift }
+{}
