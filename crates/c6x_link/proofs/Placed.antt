@@ -3,7 +3,8 @@ use Rattle.std.proofs.Common.{◌≡◌, ℕ, ◌+◌, ◌-◌, ◌*◌, ◌<◌
 use Rattle.std.specs.Prelude.{All, None, nat_lt}
 use Rattle.c6x_layout.proofs.Bounds.{bounds}
 use Rattle.c6x_layout.proofs.Sized.{ordered}
-use Rattle.c6x_layout.specs.Layouts.{Laying, code_end, file_end, layout_of, places_of, stubs_at, table_at, words_at, words_end}
+use Rattle.c6x_layout.specs.Alignments.{alignments_refusal}
+use Rattle.c6x_layout.specs.Layouts.{Laying, code_end, file_end, layout_of, layout_refusal, size_refusal, places_of, stubs_at, table_at, words_at, words_end}
 use Rattle.c6x_layout.specs.declared.layout.Layout.{Layout}
 use Rattle.c6x_layout.specs.declared.limits.TheConstants.{STUB_BYTES}
 use Rattle.c6x_linked.specs.declared.limits.TheConstants.{TEXT_START}
@@ -13,14 +14,15 @@ use Rattle.c6x_dsbt.specs.declared.wanted.Wanted.{Wanted}
 use Rattle.c6x_dsbt.specs.declared.wanted.Wanted.TheVariants.{Bound, Local}
 use Rattle.c6x_layout.specs.Regions.{wanted_region}
 use Rattle.c6x_link_entries.specs.Entries.{IsIn, NamesSymbol}
-use Rattle.c6x_link_targets.proofs.FewSymbols.{import_small}
+use Rattle.c6x_link_targets.proofs.FewSymbols.{first_none, import_small, later_none}
 use Rattle.c6x_link_targets.specs.LinkEntries.{entry_on, link_entries, link_entry}
 use Rattle.c6x_link_targets.specs.Rooms.{HasRoom}
 use Rattle.c6x_link_targets.specs.Targets.{import_symbol, number_of_bound, symbol_of_region, target_of}
 use Rattle.c6x_objects.specs.declared.region.Region.{Region}
 use Rattle.c6x_objects.specs.declared.region.Region.TheVariants.{Absolute, Data, Import, Text}
 use Rattle.c6x_link.proofs.EachEntry.{all_entries}
-use Rattle.c6x_link_targets.specs.Working.{Working}
+use Rattle.c6x_link_targets.specs.Working.{Working, worked_out}
+use Rattle.c6x_objects.specs.Objects.{IsObject}
 use Rattle.c6x_link.proofs.EntriesInside.{IsPlaced, all_inside}
 
 places_are : (l : Laying) → (layout_of l).places ≡ places_of l
@@ -100,3 +102,16 @@ names_symbols w worked =
 
 pub entries_inside : (w : Working) (text range : ℕ) → IsWorkedOut w → text ≡ code_end (laying_in w) - TEXT_START → range ≡ file_end (laying_in w) - table_at (laying_in w) → All (IsIn text range) (link_entries w)
 entries_inside w text range worked text_is range_is = all_inside w text range (placed w text range worked text_is range_is)
+
+-- what is laid without a broken rule is worked out
+pub worked_by : (l : Laying) → layout_refusal l ≡ None → All (IsObject false) l.objects → IsWorkedOut (worked_out l)
+unfolding layout_refusal
+worked_by l laid objects = record {
+  layout = refl;
+  sized = later_none (alignments_refusal l.objects) (size_refusal l) laid;
+  objects = objects;
+}
+
+pub aligned_by : (l : Laying) → layout_refusal l ≡ None → alignments_refusal l.objects ≡ None
+unfolding layout_refusal
+aligned_by l laid = first_none (alignments_refusal l.objects) (size_refusal l) laid

@@ -4,7 +4,7 @@ use Rattle.std.specs.Prelude.{ℕ, ◌-◌, true, false, Bool, List, ◌++◌, O
 use Rattle.c6x_dsbt.specs.Plans.{tables_refusal}
 use Rattle.c6x_elf.specs.declared.file.File.{File}
 use Rattle.c6x_fields.specs.Fields.{patched}
-use Rattle.c6x_layout.specs.Layouts.{layout_refusal}
+use Rattle.c6x_layout.specs.Layouts.{Laying, layout_refusal}
 use Rattle.c6x_layout.specs.Regions.{bound_region}
 use Rattle.c6x_link_entries.specs.Entries.{data_fields, dynamic_relas, entries_error, text_fields}
 use Rattle.c6x_link_entries.specs.Rules.{is_text}
@@ -23,7 +23,7 @@ use Rattle.c6x_link_images.specs.Images.{data_image, text_image}
 use Rattle.c6x_link_images.specs.Words.{stub_relas, word_relas}
 use Rattle.c6x_link_targets.specs.Addresses.{bound_address}
 use Rattle.c6x_link_targets.specs.LinkEntries.{link_entries}
-use Rattle.c6x_link_targets.specs.Working.{Working, laying_of, working_of}
+use Rattle.c6x_link_targets.specs.Working.{Working, laying_of, worked_out, working_of}
 
 -- A name that is bound to a symbol's definition, and not to a common or the table.
 abbrev pub is_symbol : Binding → Bool
@@ -73,14 +73,16 @@ entry_refusal w = option_map of_entry (entries_error (link_entries w))
 unfoldable pub file_refusal : Working → Option Refusal
 file_refusal w = must (is_some (entry_of w)) (refusal NoEntry 0 0) <|> entry_refusal w
 
--- The first broken rule: the names (K1, K2), the plan's index and table (K5, K6), the alignments (K3), the sizes (K4), and
--- then those of the file.
+-- The first broken rule of what is laid: the alignments (K3), the sizes (K4), and then those of the file.
+unfoldable pub laid_refusal : Laying → Option Refusal
+laid_refusal l = layout_refusal l <|> file_refusal (worked_out l)
+
+-- The first broken rule: the names (K1, K2), the plan's index and table (K5, K6), and then those of what is laid.
 unfoldable pub link_refusal : List File → LinkPlan → Option Refusal
 link_refusal objects plan =
     names_refusal (bindings_of objects)
     <|> tables_refusal plan.library plan.index plan.table
-    <|> layout_refusal (laying_of objects plan)
-    <|> file_refusal (working_of objects plan)
+    <|> laid_refusal (laying_of objects plan)
 
 -- The bytes of text and of data: each bit is the last relocation entry's value among those whose field has the bit, else
 -- the object's bit; a field that the loader fills has the value 0.

@@ -1,8 +1,11 @@
-ghost use Rattle.std.specs.Prelude.{◌≡◌, All, IfOk, OnOk, length, option_map};
+ghost use Rattle.std.specs.Prelude.{◌≡◌, ◌-◌, All, IfOk, OnOk, length, option_map};
 ghost use Rattle.c6x_fields.specs.Fields.{AreBytes, patched};
 ghost use Rattle.c6x_link.specs.Linked.{code_of, content_of, entry_refusal, of_entry};
 ghost use Rattle.c6x_link_entries.specs.Entries.{IsIn, data_fields, entries_error, text_fields};
-ghost use Rattle.c6x_link_images.specs.Worked.{IsWorkedOut};
+ghost use Rattle.c6x_layout.specs.Layouts.{code_end, file_end, table_at};
+ghost use Rattle.c6x_link_images.specs.Images.{data_image as image_of_data, text_image as image_of_text};
+ghost use Rattle.c6x_link_images.specs.Worked.{IsWorkedOut, laying_in};
+ghost use Rattle.c6x_linked.specs.declared.limits.TheConstants.{TEXT_START};
 ghost use Rattle.c6x_link_targets.specs.LinkEntries.{link_entries};
 ghost use Rattle.c6x_symbols.specs.Rules.{Passes};
 
@@ -24,6 +27,8 @@ pub fn set_images(
     ensures passes { Passes result (entry_refusal link.now) }
     ensures code { IfOk result (λ r. r.0.items ≡ code_of link.now) }
     ensures content { IfOk result (λ r. r.1.items ≡ content_of link.now) }
+    ensures text_size { OnOk result (length (image_of_text link.now) ≡ code_end (laying_in link.now) - TEXT_START) }
+    ensures data_size { OnOk result (length (image_of_data link.now) ≡ file_end (laying_in link.now) - table_at (laying_in link.now)) }
 {
     let mut code = text_image(alloc, link)?;
     let mut content = data_image(alloc, link)?;

@@ -14,10 +14,10 @@ use std::marker::Model;
 
 /// What a link has worked out, with its sections' addresses, regions and symbols at hand. Contracts see what was worked out.
 #[derive(Debug, Drop)]
-pub struct Link<'a> {
+pub struct Link<'a, 'b> {
     objects: &'a [File],
     plan: &'a LinkPlan,
-    bindings: &'a Bindings<'a>,
+    bindings: &'a Bindings<'b>,
     tables: &'a Tables,
     layout: &'a Layout,
     regions: Regions,
@@ -25,7 +25,7 @@ pub struct Link<'a> {
     addresses: IndexMap<SectionKey, u32>,
 }
 
-impl<'a> Model for Link<'a> {
+impl<'a, 'b> Model for Link<'a, 'b> {
     ghost use Rattle.std.specs.Prelude.{◌≡◌};
     ghost use Rattle.indexmap.specs.IndexMap.{get};
     ghost use Rattle.c6x_link_targets.specs.SectionAddresses.{found_in, same_key};
@@ -40,7 +40,7 @@ impl<'a> Model for Link<'a> {
     ghost invariant = { λ l. AreRows l.objects.now l.regions l.symbols.items × ((key : KeyOf) → get same_key l.addresses key ≡ found_in l.layout.now.places key) };
 }
 
-impl<'a> Link<'a> {
+impl<'a, 'b> Link<'a, 'b> {
     ghost use Rattle.std.specs.Prelude.{◌≡◌, IfOk};
     ghost use Rattle.c6x_layout.specs.Regions.{bound_region, section_region, symbol_in, wanted_region};
     ghost use Rattle.c6x_link_targets.specs.Addresses.{address_in};
@@ -50,10 +50,10 @@ impl<'a> Link<'a> {
         alloc: Global,
         objects: &'a [File],
         plan: &'a LinkPlan,
-        bindings: &'a Bindings<'a>,
+        bindings: &'a Bindings<'b>,
         tables: &'a Tables,
         layout: &'a Layout,
-    ) -> Result<Link<'a>, AllocError>
+    ) -> Result<Link<'a, 'b>, AllocError>
         ensures { IfOk result (λ link. link ≡ record { objects = objects.now; plan = plan.now; bindings = bindings.now; words = tables.now.words; stubs = tables.now.stubs; layout = layout.now }) }
     {
         let regions = regions_of(alloc, objects)?;
@@ -86,7 +86,7 @@ impl<'a> Link<'a> {
     }
 
     /// What the names are bound to.
-    pub fn bindings(&self) -> &Bindings<'a>
+    pub fn bindings(&self) -> &Bindings<'b>
         ensures { result.now ≡ self.now.bindings }
     {
         self.bindings
