@@ -1,3 +1,4 @@
+ghost use Rattle.c6x_moved.specs.Holds.{FieldsHold};
 ghost use Rattle.c6x_moved.specs.Moved.{ShiftIsPlace, StartIsSum, TextShift, ValueStays};
 
 /// An entry's value is the same where its module stands, if the loader does not fill its field.
@@ -11,4 +12,9 @@ pub fn words_are_sums()
     ensures start { StartIsSum }
     ensures place { ShiftIsPlace }
     ensures text { TextShift }
+{}
+
+/// The field of an entry holds its value where its module stands.
+pub fn fields_hold()
+    ensures { FieldsHold }
 {}
