@@ -32,14 +32,14 @@ same_number (suc count) a b x y same =
     ap (slice_index a) u ∙ same (suc i) (omega arith) ∙ ap (slice_index b) v) in
     λ i. first i + 256 * rest i
 
-same_held : (kind : RelocKind) (a b : List ℕ) (x y v : ℕ) → x + (row_of kind).size ≤ length a → ((i : ℕ) → i < (row_of kind).size → slice_index a (x + i) ≡ slice_index b (y + i)) → HoldsValue b y kind v → HoldsValue a x kind v
+pub same_held : (kind : RelocKind) (a b : List ℕ) (x y v : ℕ) → x + (row_of kind).size ≤ length a → ((i : ℕ) → i < (row_of kind).size → slice_index a (x + i) ≡ slice_index b (y + i)) → HoldsValue b y kind v → HoldsValue a x kind v
 same_held kind a b x y v inside same h = record {
   inside = λ some. inside;
   field = ap (λ n. bits_of n (row_of kind).low (row_of kind).width) (same_number (row_of kind).size a b x y same) ∙ h.field;
 }
 
 -- the bytes of a part on the memory
-on_board : (board : Memory) (at : ℕ) (bytes behind : List ℕ) (place i : ℕ) → board.base ≤ at → HoldsPart board (record { at = at; bytes = bytes ++ behind }) → place + i < length bytes → slice_index board.bytes (at + place - board.base + i) ≡ slice_index bytes (place + i)
+pub on_board : (board : Memory) (at : ℕ) (bytes behind : List ℕ) (place i : ℕ) → board.base ≤ at → HoldsPart board (record { at = at; bytes = bytes ++ behind }) → place + i < length bytes → slice_index board.bytes (at + place - board.base + i) ≡ slice_index bytes (place + i)
 on_board board at bytes behind place i above part inside =
     let e : at + place - board.base + i ≡ at + (place + i) - board.base = omega arith in
     ap (slice_index board.bytes) e

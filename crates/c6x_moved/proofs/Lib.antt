@@ -1,3 +1,4 @@
 pub mod Stays
 pub mod Words
 pub mod Held
+pub mod Word

@@ -1,11 +1,13 @@
 -- The field of a linked entry where its module stands.
-use Rattle.std.specs.Prelude.{◌≡◌, ℕ, ◌+◌, ◌-◌, ◌%◌, true, false, List, ◌++◌, length, Ok, Some, None}
+use Rattle.std.specs.Prelude.{◌≡◌, ℕ, ◌+◌, ◌-◌, ◌%◌, true, false, List, ◌++◌, length, Ok, Some, None, ◌^◌}
+use Rattle.std.specs.Int.{cast_unsigned, w32}
 use Rattle.c6x_spec.specs.Memory.{IsOnMemory, Memory}
 use Rattle.c6x_spec.specs.Parts.{HoldsPart}
 use Rattle.c6x_reloc.specs.Fields.{HoldsValue}
 use Rattle.c6x_reloc.specs.Value.{value_of}
 use Rattle.c6x_reloc.specs.declared.inputs.Inputs.{Inputs}
 use Rattle.c6x_reloc.specs.declared.reloc_kind.RelocKind.{RelocKind}
+use Rattle.c6x_reloc.specs.declared.reloc_kind.RelocKind.TheVariants.{ABS32}
 use Rattle.c6x_fields.specs.Fields.{AreBytes, IsLast, IsPatchedBy}
 use Rattle.c6x_fields.specs.declared.field.Field.{Field}
 use Rattle.c6x_link_entries.specs.Entries.{field_in, is_dynamic}
@@ -34,3 +36,13 @@ pub record IsLinked (e : Entry) (kind : RelocKind) (worth : ℕ) : Type 0 where
 abbrev pub FieldsHold : Type 0
 FieldsHold =
     (board : Memory) (at : ℕ) (old bytes behind : List ℕ) (fields : List Field) (by : Shifts) (found : ℕ) → by.text % 32 ≡ 0 → IsOnMemory board at (length (bytes ++ behind)) → AreBytes bytes → IsPatchedBy old fields bytes → HoldsPart board (record { at = at; bytes = bytes ++ behind }) → (e : Entry) (kind : RelocKind) (worth : ℕ) → IsLinked e kind worth → IsLast (length bytes) fields (field_in e kind worth) → HoldsAt board (at + (e.at + e.reference.offset)) kind (moved_inputs by found (origin_of kind) e.reference)
+
+-- A word that the loader writes, as a field over the bytes of its range.
+abbrev pub word_field : ℕ → ℕ → Field
+word_field place word = record { place = place; kind = ABS32; value = word }
+
+-- Where bytes stand that fields patched, a word of them whose bits no later field has holds the value of an entry of
+-- kind ABS32 whose sum it is.
+abbrev pub WordsHold : Type 0
+WordsHold =
+    (board : Memory) (at : ℕ) (old bytes behind : List ℕ) (fields : List Field) → IsOnMemory board at (length (bytes ++ behind)) → AreBytes bytes → IsPatchedBy old fields bytes → HoldsPart board (record { at = at; bytes = bytes ++ behind }) → (place word : ℕ) (i : Inputs) → IsLast (length bytes) fields (word_field place word) → word ≡ (i.s + cast_unsigned w32 i.a) % 2 ^ 32 → HoldsAt board (at + place) ABS32 i

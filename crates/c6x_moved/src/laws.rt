@@ -1,4 +1,4 @@
-ghost use Rattle.c6x_moved.specs.Holds.{FieldsHold};
+ghost use Rattle.c6x_moved.specs.Holds.{FieldsHold, WordsHold};
 ghost use Rattle.c6x_moved.specs.Moved.{ShiftIsPlace, StartIsSum, TextShift, ValueStays};
 
 /// An entry's value is the same where its module stands, if the loader does not fill its field.
@@ -17,4 +17,9 @@ pub fn words_are_sums()
 /// The field of an entry holds its value where its module stands.
 pub fn fields_hold()
     ensures { FieldsHold }
+{}
+
+/// A word that the loader writes holds the value of its entry.
+pub fn words_hold()
+    ensures { WordsHold }
 {}

@@ -6,4 +6,4 @@
 
 mod laws;
 
-pub use laws::{fields_hold, value_stays, words_are_sums};
+pub use laws::{fields_hold, value_stays, words_are_sums, words_hold};
