@@ -55,6 +55,20 @@ pub fn text_devices(
     devices_over(alloc, shelf, &[], 64)
 }
 
+/// A shelf with `x.lnk`, `one.o` and `two.o`, and a board of 64 bytes that are all 0xAA.
+pub fn link_devices(
+    alloc: Global,
+    plan: &[u8],
+    one: &[u8],
+    two: &[u8],
+) -> Result<Devices, AllocError> {
+    let plan = stored(alloc, b"x.lnk", plan)?;
+    let one = stored(alloc, b"one.o", one)?;
+    let two = stored(alloc, b"two.o", two)?;
+    let shelf = MemoryShelf::new(vec![in alloc; plan, one, two]?, Vec::new(alloc));
+    devices_over(alloc, shelf, &[], 64)
+}
+
 /// The devices with this shelf.
 fn devices_over(
     alloc: Global,

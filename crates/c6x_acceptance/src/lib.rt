@@ -11,6 +11,8 @@ mod devices;
 #[cfg(test)]
 mod images;
 #[cfg(test)]
+mod linking;
+#[cfg(test)]
 mod map;
 #[cfg(test)]
 mod run;

@@ -7,16 +7,20 @@ use Rattle.c6x_cli_steps.specs.Steps.{Steps, ◌>>=◌, own}
 use Rattle.c6x_cli_run.specs.Placing.{placing_steps, IsPlaced}
 use Rattle.c6x_cli_run.specs.Run.{IsReady}
 use Rattle.c6x_cli_run.specs.Stages.{map_stages, run_stages}
+use Rattle.c6x_cli_objects.specs.Linking.{linking_steps}
 use Rattle.c6x_cli_objects.specs.Objects.{object_steps}
 use Rattle.c6x_cli.specs.declared.prepared.Prepared.{Prepared}
 use Rattle.c6x_cli.specs.declared.prepared.Prepared.TheVariants.{Map as PreparedMap, Run as PreparedRun, Store}
 use Rattle.c6x_cli.specs.declared.request.Request.{Request}
-use Rattle.c6x_cli.specs.declared.request.Request.TheVariants.{Assemble, Map, Run}
+use Rattle.c6x_cli.specs.declared.request.Request.TheVariants.{Assemble, Link, Map, Run}
 
 -- What each command comes to on the files and the board.
 unfoldable pub request_steps : Request → Files → Memory → Steps Outcome
 request_steps (Assemble input output) files board = do
   bytes ← object_steps files input
+  own (Ok (store_outcome output bytes board))
+request_steps (Link plan output) files board = do
+  bytes ← linking_steps files plan
   own (Ok (store_outcome output bytes board))
 request_steps (Map plan) files board = do
   placed ← placing_steps files plan board.base (length board.bytes)

@@ -1,7 +1,7 @@
 use Rattle.std.specs.Prelude.{◌≡◌, ◌⊎◌, ℕ, Bool, true, false, ◌&&◌, not, List, [], ◌∷◌, length, slice_index, nat_eq, Option, None, Some, codes, if◌then◌else◌}
 use Rattle.std.specs.Str.{bytes_eq, is_utf8}
 use Rattle.c6x_cli.specs.declared.request.Request.{Request}
-use Rattle.c6x_cli.specs.declared.request.Request.TheVariants.{Assemble, Map, Run}
+use Rattle.c6x_cli.specs.declared.request.Request.TheVariants.{Assemble, Link, Map, Run}
 
 -- A word that may stand for a file: it is UTF-8, is not empty and does not begin with a dash.
 unfoldable pub is_positional : List ℕ → Bool
@@ -15,7 +15,9 @@ asked_of_one verb file =
 
 -- The command that a verb and two files ask for.
 unfoldable pub asked_of_two : List ℕ → List ℕ → List ℕ → Option Request
-asked_of_two verb first second = if bytes_eq verb (codes "as") then Some (Assemble first second) else None
+asked_of_two verb first second =
+    if bytes_eq verb (codes "as") then Some (Assemble first second)
+    else (if bytes_eq verb (codes "ld") then Some (Link first second) else None)
 
 -- The command that the words ask for, where they have a reading.
 unfoldable pub request_of : List (List ℕ) → Option Request
@@ -28,6 +30,7 @@ request_of _ = None
 abbrev pub is_storing : Option Request → Bool
 is_storing None = false
 is_storing (Some (Assemble input output)) = true
+is_storing (Some (Link plan output)) = true
 is_storing (Some (Map plan)) = false
 is_storing (Some (Run plan)) = false
 

@@ -54,6 +54,12 @@ fn parse_two(verb: &Name, first: Name, second: Name) -> Option<Request>
             output: second,
         });
     }
+    if verb.as_bytes() == b"ld".as_slice() {
+        return Some(Request::Link {
+            plan: first,
+            output: second,
+        });
+    }
     None
 }
 

@@ -21,11 +21,11 @@ use std::alloc::Global;
 /// Does what the words ask for, over a shelf of files, an output, an error output and a board, and gives the exit
 /// status.
 ///
-/// `as IN OUT` assembles the text IN and stores its object file as OUT; `map PLAN` lays the plan's process out on the
-/// board and lists where everything stands; `run PLAN` also runs it to its end, and tells how it ended, after how many
-/// cycles and with which output. Statuses: 0 where all was done, 2 where the words have no reading, 3 where a file is
-/// missing, 4 where a rule is broken, 5 where a file could not be read, 6 where a sink, or the shelf in `as`, could not
-/// write, and 7 where memory ran out. For each status but 0 one line is put on the error output.
+/// `as IN OUT` assembles the text IN and stores its object file as OUT; `ld PLAN OUT` links the objects of the link plan
+/// PLAN and stores the module as OUT; `map PLAN` lays the plan's process out on the board and lists where everything
+/// stands; `run PLAN` also runs it to its end, and tells how it ended, after how many cycles and with which output. Statuses: 0 where all was done, 2 where the words have no reading, 3 where a file is
+/// missing, 4 where a rule is broken, 5 where a file could not be read, 6 where a sink, or the shelf in `as` and `ld`, could
+/// not write, and 7 where memory ran out. For each status but 0 one line is put on the error output.
 pub fn command<S: Shelf, O: Sink, E: Sink>(
     alloc: Global,
     words: Vec<Name>,

@@ -1,5 +1,5 @@
 ghost use Rattle.std.specs.Prelude.{◌≡◌, true, false, Some, IfOk};
-ghost use Rattle.c6x_cli.specs.declared.request.Request.TheVariants.{Assemble as assemble_request, Map as map_request, Run as run_request};
+ghost use Rattle.c6x_cli.specs.declared.request.Request.TheVariants.{Assemble as assemble_request, Link as link_request, Map as map_request, Run as run_request};
 ghost use Rattle.c6x_cli.specs.Meaning.{CanCommit, is_store, outcome_of, request_steps};
 ghost use Rattle.c6x_cli.specs.Requests.{is_storing};
 ghost use Rattle.c6x_cli_steps.specs.Steps.{Prepares};
@@ -8,7 +8,7 @@ use crate::prepared::Prepared;
 use crate::request::Request;
 use c6x_base::Name;
 use c6x_board::Board;
-use c6x_cli_objects::prepare_object;
+use c6x_cli_objects::{prepare_module, prepare_object};
 use c6x_cli_run::{prepare_placed, prepare_process};
 use c6x_cli_steps::PrepareError;
 use c6x_ports::Shelf;
@@ -29,6 +29,7 @@ pub fn prepare<S: Shelf>(
         Request::Assemble { input, output } => prepare_assembling(
             alloc, &input, output, shelf, board,
         ),
+        Request::Link { plan, output } => prepare_linking(alloc, &plan, output, shelf, board),
         Request::Map { plan } => prepare_map(alloc, &plan, shelf, board),
         Request::Run { plan } => prepare_run(alloc, &plan, shelf, board),
     }
@@ -48,6 +49,22 @@ fn prepare_assembling<S: Shelf>(
 {
     let bytes = prepare_object(alloc, shelf, input)?;
     Ok(Prepared::Store(output, bytes))
+}
+
+/// Does all that `ld` decides before it stores.
+fn prepare_linking<S: Shelf>(
+    alloc: Global,
+    plan: &Name,
+    output: Name,
+    shelf: &mut S,
+    board: &Board,
+) -> Result<Prepared, PrepareError>
+    ensures prepares { Prepares (λ prepared. outcome_of prepared board.now) (λ told. request_steps (link_request plan.now output) told board.now) (S.seen shelf.old) (S.seen shelf.new) result }
+    ensures ready { IfOk result (CanCommit board.now) }
+    ensures kind { IfOk result (λ prepared. is_store prepared ≡ true) }
+{
+    let module = prepare_module(alloc, shelf, plan)?;
+    Ok(Prepared::Store(output, module))
 }
 
 /// Does all that `map` decides before anything is written.

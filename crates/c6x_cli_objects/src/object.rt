@@ -40,8 +40,8 @@ fn object_of(alloc: Global, name: &Name, text: &[u8]) -> Result<File, PrepareErr
     }
 }
 
-/// The bytes of an object.
-fn written_object(alloc: Global, object: &File) -> Result<Bytes, PrepareError>
+/// The bytes of a file.
+pub fn written_object(alloc: Global, object: &File) -> Result<Bytes, PrepareError>
     requires { IsTidy false object.now }
     ensures { Decides (λ bytes. bytes) (Ok (written false object.now)) result }
 {
