@@ -82,7 +82,7 @@ class Object:
         return len(self.symbols) - 1
 
     def entry(self, section, offset, kind, symbol, addend):
-        self.entries.setdefault(section, []).append((offset, symbol << 8 | kind, addend))
+        self.entries.setdefault(section, []).append((offset & 0xFFFFFFFF, symbol << 8 | kind, addend))
 
     def written(self, rng):
         """The bytes of the file: headers, sections, symbols, strings and tables of entries."""
@@ -321,7 +321,7 @@ def skewed(rng, ob):
     for entries in ob.entries.values():
         for at, (offset, info, addend) in enumerate(entries):
             if info & 255 in (4, 5, *SCALES):
-                entries[at] = (offset, info, addend + rng.choice([1, 2]))
+                entries[at] = (offset, info, addend + rng.choice([1, 2]) if addend < 1 << 20 else addend - 1)
                 return True
     return False
 
@@ -332,7 +332,7 @@ PLAN_FAULTS = [
     lambda r, ls: [l for l in ls if not l.startswith("entry")] + [f"entry n{r.randrange(8)}"],
     lambda r, ls: [l for l in ls if not l.startswith(("index", "output"))] + ["output library", f"index {r.choice([0, 4, 64, 4294967295])}"],
     lambda r, ls: [l for l in ls if not l.startswith("index")] + [f"index {r.choice([1, 7, 4294967295])}"],
-    lambda r, ls: [l for l in ls if not l.startswith("table")] + [f"table {r.choice([0, 1025, 4294967295])}"],
+    lambda r, ls: [l for l in ls if not l.startswith("table")] + [f"table {r.choice([0, 4097, 4294967295])}"],
     lambda r, ls: ls + [r.choice(["", "# nothing", "needed lib9.so", "object 0.o", "object none.o"])],
     lambda r, ls: ls + [r.choice(["needed lib0.so", "index 1", "table 4", "soname a", "output library", "entry start"])] * 2,
     lambda r, ls: ls + [r.choice(["objects 0.o", "object", "table x", "index 4294967296", "output both", "needed " + "n" * 65, "table 00000000004"])],

@@ -189,7 +189,7 @@ def bind_fault(rng, case):
     elif draw == 1 and case.libraries:
         case.modules[rng.choice(case.libraries)].index = rng.choice([0, rng.randrange(1, 12)])
     elif draw == 2:
-        module.slots = rng.choice([1, 2, 1025, 4096])
+        module.slots = rng.choice([1, 2, 4097, 9000])
     elif draw == 3:
         module.needed.insert(rng.randrange(len(module.needed) + 1), "lost.so")
     elif draw == 4 and fields:
