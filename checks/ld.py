@@ -1,16 +1,18 @@
 #!/usr/bin/env python3
 """Links random sets of objects with the built `c6x` and with a reference model, and compares status, line and stored bytes.
 
-    checks/ld.py MODEL PROGRAM [COUNT [AS LD]]
+    checks/ld.py MODEL PROGRAM [COUNT [AS LD READELF]]
 
 MODEL is a program, or a Python script, that takes the words of `c6x`; PROGRAM is the built `c6x`. A case has one to six
 objects, made here byte by byte, assembled by PROGRAM from the texts of checks/asm.py, or assembled by gas, and a link
-plan; every second one has a fault. The cases are the same at each run. Where a tic6x `as` and `ld` are given or on the
-path, 500 programs are also linked with GNU ld, and each relocated field of both files is compared with the value that
-the addresses in that file ask for.
+plan; every second one has a fault. The cases are the same at each run. Where a tic6x `as`, `ld` and `readelf` are given or
+on the path, 500 programs are also linked with GNU ld, and each relocated field of both files is compared with the value
+that the addresses in that file ask for; and 200 libraries are read by readelf, which must not complain, and must list the
+same tags, symbols and entries.
 """
 import os
 import random
+import re
 import struct
 import subprocess
 import sys
@@ -638,13 +640,63 @@ def against_gnu(program, gnu, count):
     return met, different, done
 
 
+def rows_of(file):
+    """The tags, the symbols and the entries of our file: numbers and names as they stand in its bytes."""
+    start, text, tags = dynamic_of(file)
+    dynamic = next(h for h in heads_of(file) if h[0] == 2)
+    listed = list(struct.unpack_from(f"<{dynamic[4] // 4}I", file, dynamic[1]))[0::2]
+    count, = struct.unpack_from("<I", text, tags[4] - start + 4)
+    symbols = []
+    for at in range(tags[6] - start, tags[6] - start + 16 * count, 16):
+        name, value = struct.unpack_from("<II", text, at)
+        symbols.append((value, text_at(text, tags[5] - start + name)))
+    entries = []
+    for table, size in ((7, 8), (23, 2)):
+        at = tags.get(table, start) - start
+        entries += [struct.unpack_from("<II", text, at + k) for k in range(0, tags.get(size, 0), 12)]
+    return listed, symbols, entries
+
+
+def rows_of_readelf(text):
+    """The same as readelf lists them."""
+    tags, symbols, entries = [], [], []
+    for line in text.splitlines():
+        words = re.sub(r"\[<other>: \w+\]", "", line).split()
+        if len(words) > 1 and words[0].startswith("0x") and words[1].startswith("("):
+            tags.append(int(words[0], 16))
+        elif len(words) >= 7 and words[0][:-1].isdigit() and words[0].endswith(":"):
+            symbols.append((int(words[1], 16), words[7] if len(words) > 7 else ""))
+        elif len(words) > 2 and words[2].startswith("R_C6000_"):
+            entries.append((int(words[0], 16), int(words[1], 16)))
+    return tags, symbols, entries
+
+
+def against_readelf(program, readelf, count):
+    """Reads linked libraries of the cases with readelf."""
+    done, different, number = 0, 0, 0
+    while done < count and number < 20 * count:
+        with tempfile.TemporaryDirectory() as folder:
+            files_of(number, folder, program, None)
+            number += 2
+            if b"output library" not in load(folder, "plan") or linked(program, folder, "made.out")[0] != 0:
+                continue
+            done += 1
+            words = [readelf, "-W", "-d", "-s", "-r", "--use-dynamic", "made.out"]
+            read = subprocess.run(words, cwd=folder, capture_output=True)
+            wanted, got = rows_of(load(folder, "made.out")), rows_of_readelf(read.stdout.decode("latin-1"))
+            if read.returncode != 0 or read.stderr or wanted != got:
+                different += 1
+                print(f"case {number - 2}: readelf {read.returncode} {read.stderr[:200]!r}" + ("" if wanted == got else f", which lists {got}, not {wanted}"))
+    return done, different
+
+
 def main():
     if len(sys.argv) < 3:
         print("checks/ld.py: give the path of a reference model, and that of the built c6x")
         return 2
     model, program = asm.command(sys.argv[1]), asm.command(sys.argv[2])
     count = int(sys.argv[3]) if len(sys.argv) > 3 else 5000
-    gas, gnu = (sys.argv[4], sys.argv[5]) if len(sys.argv) > 5 else (asm.tool("as"), asm.tool("ld"))
+    gas, gnu, readelf = sys.argv[4:7] if len(sys.argv) > 6 else map(asm.tool, ("as", "ld", "readelf"))
     apart = 0
     if gnu:
         met, apart, done = against_gnu(program, gnu, min(count, 500))
@@ -652,6 +704,10 @@ def main():
         print(f"GNU ld: {done} programs, fields in both files: {kinds}; " + (f"{apart} differences" if apart else "no difference found"))
     else:
         print("GNU ld: no tic6x binutils are here")
+    if readelf:
+        read, misread = against_readelf(program, readelf, min(count, 200))
+        print(f"readelf: {read} libraries; " + (f"{misread} differences" if misread else "no difference found"))
+        apart += misread
     rules, different, faulty = compare(model, program, gas, count)
     met = ", ".join(f"{rule} {times}" for rule, times in sorted(rules.items()))
     print(f"{count} cases, {faulty} with a fault: {met}; " + (f"{different} differences" if different else "no difference found"))
