@@ -51,15 +51,15 @@ def seconds(words, folder):
     best = None
     for _ in range(5):
         start = time.perf_counter()
-        subprocess.run(words, cwd=folder, check=True)
+        subprocess.run(words, cwd=folder, check=True, capture_output=True)
         taken = time.perf_counter() - start
         best = taken if best is None else min(best, taken)
     return best
 
 
-def gas_on_path():
+def tool_on_path(name):
     for target in ("tic6x-elf", "tic6x-uclinux"):
-        found = shutil.which(f"{target}-as")
+        found = shutil.which(f"{target}-{name}")
         if found:
             return found
     return None
@@ -70,7 +70,7 @@ def main():
         print("bench/asm.py: give the path of the built c6x")
         return 2
     ours = os.path.abspath(sys.argv[1])
-    gas = sys.argv[2] if len(sys.argv) > 2 else gas_on_path()
+    gas = sys.argv[2] if len(sys.argv) > 2 else tool_on_path("as")
     before, status = None, 0
     with tempfile.TemporaryDirectory() as folder:
         for count in (10_000, 20_000, 40_000):

@@ -9,11 +9,11 @@ every 64 and a load or store of a word of data every 8; the times are the best o
 """
 import os
 import random
-import shutil
 import subprocess
 import sys
 import tempfile
-import time
+
+from asm import seconds, tool_on_path
 
 SCRIPT = "SECTIONS { .text 0x10000 : { *(.text) } .data 0x400000 : { __c6xabi_DSBT_BASE = .; . += 256; *(.neardata) } }\n"
 
@@ -40,24 +40,6 @@ def source(rng, number, count, objects):
     return "\n".join(lines) + "\n"
 
 
-def seconds(words, folder):
-    best = None
-    for _ in range(5):
-        start = time.perf_counter()
-        subprocess.run(words, cwd=folder, check=True, capture_output=True)
-        taken = time.perf_counter() - start
-        best = taken if best is None else min(best, taken)
-    return best
-
-
-def linker_on_path():
-    for target in ("tic6x-elf", "tic6x-uclinux"):
-        found = shutil.which(f"{target}-ld")
-        if found:
-            return found
-    return None
-
-
 def made(folder, ours, count, objects):
     """Makes the objects of a program and its link plan; their names."""
     rng = random.Random(count + objects)
@@ -76,7 +58,7 @@ def main():
         print("bench/ld.py: give the path of the built c6x")
         return 2
     ours = os.path.abspath(sys.argv[1])
-    gnu = sys.argv[2] if len(sys.argv) > 2 else linker_on_path()
+    gnu = sys.argv[2] if len(sys.argv) > 2 else tool_on_path("ld")
     status = 0
     with tempfile.TemporaryDirectory() as folder:
         with open(os.path.join(folder, "script"), "w") as out:

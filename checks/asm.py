@@ -9,12 +9,12 @@ of 10,000 instructions are also compared with gas.
 """
 import os
 import random
-import shutil
 import struct
 import subprocess
 import sys
 import tempfile
-from concurrent.futures import ThreadPoolExecutor
+
+from comparing import command, compared, outcome, store, summed, tool, verdict
 
 ARITHMETIC = {
     "L": ["ADD", "SUB", "AND", "OR", "XOR", "CMPEQ", "CMPGT", "CMPLT", "CMPGTU", "CMPLTU"],
@@ -392,39 +392,24 @@ def case(number):
     return body.encode("latin-1"), faulty
 
 
-def command(path):
-    return [sys.executable, os.path.abspath(path)] if path.endswith(".py") else [os.path.abspath(path)]
-
-
 def assembled(program, folder, out):
-    done = subprocess.run(program + ["as", "in.s", out], cwd=folder, capture_output=True, timeout=600)
-    path = os.path.join(folder, out)
-    stored = open(path, "rb").read() if os.path.exists(path) else None
-    return done.returncode, done.stdout, done.stderr, stored
+    return outcome(program, folder, ["as", "in.s", out], out)
 
 
 def compare(model, program, count):
-    rules, different, faulty_cases = {}, 0, 0
-
     def one(number):
         body, faulty = case(number)
         with tempfile.TemporaryDirectory() as folder:
-            with open(os.path.join(folder, "in.s"), "wb") as out:
-                out.write(body)
-            return number, body, faulty, assembled(model, folder, "wanted.o"), assembled(program, folder, "got.o")
+            store(folder, "in.s", body)
+            return faulty, assembled(model, folder, "wanted.o"), assembled(program, folder, "got.o")
 
-    with ThreadPoolExecutor(max_workers=4) as pool:
-        for number, body, faulty, wanted, got in pool.map(one, range(count)):
-            faulty_cases += faulty
-            words = wanted[2].split()
-            met = words[2].decode() if len(words) > 2 else f"status {wanted[0]}"
-            rules[met] = rules.get(met, 0) + 1
-            if wanted != got:
-                different += 1
-                print(f"text {number}: wanted {wanted[:3]}, got {got[:3]}" + ("" if wanted[3] == got[3] else ", and the files differ"))
-                if len(body) < 2000:
-                    print(body.decode("latin-1"))
-    return rules, different, faulty_cases
+    def told(number, wanted, got):
+        print(f"text {number}: wanted {wanted[:3]}, got {got[:3]}" + ("" if wanted[3] == got[3] else ", and the files differ"))
+        body, _ = case(number)
+        if len(body) < 2000:
+            print(body.decode("latin-1"))
+
+    return compared(one, count, told)
 
 
 def section_bytes(file, name):
@@ -437,14 +422,6 @@ def section_bytes(file, name):
         if file[start:file.index(b"\0", start)] == name:
             return file[head[4]:head[4] + head[5]]
     return b""
-
-
-def tool(name):
-    for target in ("tic6x-elf", "tic6x-uclinux"):
-        found = shutil.which(f"{target}-{name}")
-        if found:
-            return found
-    return None
 
 
 def gas_line(parts):
@@ -495,13 +472,12 @@ def main():
     gas, objcopy = (sys.argv[4], sys.argv[5]) if len(sys.argv) > 5 else (tool("as"), tool("objcopy"))
     if gas and objcopy:
         words, apart = against_gas(program, gas, objcopy, 10000)
-        print(f"gas: {words} instructions, " + (f"{apart} differences" if apart else "no difference found"))
+        print(f"gas: {words} instructions, " + verdict(apart))
     else:
         apart = 0
         print("gas: no tic6x binutils are here")
     rules, different, faulty = compare(model, program, count)
-    met = ", ".join(f"{rule} {times}" for rule, times in sorted(rules.items()))
-    print(f"{count} texts, {faulty} with a fault: {met}; " + (f"{different} differences" if different else "no difference found"))
+    print(summed("texts", count, rules, different, faulty))
     return 1 if different or apart else 0
 
 

@@ -10,7 +10,6 @@ of a broken rule, the values that were read and the written form of a tidy file 
 """
 import os
 import random
-import subprocess
 import sys
 
 if len(sys.argv) < 2:
@@ -20,7 +19,8 @@ HERE = os.path.dirname(os.path.abspath(__file__))
 PROGRAM = sys.argv[2] if len(sys.argv) > 2 else os.path.join(
     HERE, "..", "crates", "c6x_elf_probe", "out", "c6x_elf_probe")
 CASES = int(sys.argv[3]) if len(sys.argv) > 3 else 20_000
-BATCH = 2_000
+
+from comparing import answers, shown  # noqa: E402
 
 sys.path.insert(0, MODEL)
 import asm  # noqa: E402
@@ -39,17 +39,6 @@ PLANS = [
     b"c6x-link 1\noutput executable\ntable 4\nentry start\nneeded libq.so\nobject a.o\n",
     b"c6x-link 1\noutput library\nindex 3\ntable 4\nsoname libq.so\nobject b.o\n",
 ]
-
-
-def fnv(data):
-    total = 0x811C9DC5
-    for byte in data:
-        total = ((total ^ byte) * 0x01000193) & 0xFFFFFFFF
-    return total
-
-
-def shown(data):
-    return " %d %08x" % (len(data), fnv(data))
 
 
 def answer(data):
@@ -121,26 +110,18 @@ def heads(rng, data):
     return at + rng.randrange(size * number)
 
 
+def kind_of(want):
+    """The rule of an answer, or whether its file was written again."""
+    return want.split()[0] + (" written" if " written" in want else "")
+
+
 def main():
     rng = random.Random(140)
     whole = seeds()
     cases = list(whole) + [whole[0][:n] for n in range(len(whole[0]))]
     while len(cases) < CASES:
         cases.append(mutated(rng, rng.choice(whole)))
-    kinds = {}
-    for first in range(0, len(cases), BATCH):
-        batch = cases[first:first + BATCH]
-        text = "".join(case.hex() + "\n" for case in batch)
-        run = subprocess.run([PROGRAM], input=text.encode(), stdout=subprocess.PIPE, check=True)
-        lines = run.stdout.decode().splitlines()
-        if len(lines) != len(batch):
-            sys.exit("checks/elf.py: %d answers for %d cases" % (len(lines), len(batch)))
-        for case, line in zip(batch, lines):
-            want = answer(case)
-            kind = want.split()[0] + (" written" if " written" in want else "")
-            kinds[kind] = kinds.get(kind, 0) + 1
-            if line != want:
-                sys.exit("checks/elf.py: differs at %s\n  model   %s\n  program %s" % (case.hex(), want, line))
+    kinds = answers("checks/elf.py", PROGRAM, cases, answer, kind_of)
     print("answers: " + ", ".join("%s %d" % pair for pair in sorted(kinds.items())))
     print("%d cases of %d files, no difference" % (len(cases), len(whole)))
 

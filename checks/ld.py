@@ -17,9 +17,9 @@ import struct
 import subprocess
 import sys
 import tempfile
-from concurrent.futures import ThreadPoolExecutor
 
 import asm
+from comparing import command, compared, load, outcome, store, summed, tool, verdict
 
 WRITE, ALLOC, EXEC = 1, 2, 4
 PROGBITS, SYMTAB, STRTAB, RELA, NOBITS, REL = 1, 2, 3, 4, 8, 9
@@ -396,19 +396,6 @@ def files_of(number, folder, program, gas):
     return faulty
 
 
-def store(folder, name, data):
-    with open(os.path.join(folder, name), "wb") as out:
-        out.write(data)
-
-
-def load(folder, name):
-    path = os.path.join(folder, name)
-    if not os.path.exists(path):
-        return None
-    with open(path, "rb") as file:
-        return file.read()
-
-
 def assembled(program, folder, text):
     store(folder, "in.s", text.encode("latin-1"))
     done = subprocess.run(program + ["as", "in.s", "made.o"], cwd=folder, capture_output=True, timeout=600)
@@ -432,28 +419,19 @@ def by_gas(rng, folder, gas):
 
 
 def linked(program, folder, out):
-    done = subprocess.run(program + ["ld", "plan", out], cwd=folder, capture_output=True, timeout=600)
-    return done.returncode, done.stdout, done.stderr, load(folder, out)
+    return outcome(program, folder, ["ld", "plan", out], out)
 
 
 def compare(model, program, gas, count):
-    rules, different, faulty_cases = {}, 0, 0
-
     def one(number):
         with tempfile.TemporaryDirectory() as folder:
             faulty = files_of(number, folder, program, gas)
-            return number, faulty, linked(model, folder, "wanted.out"), linked(program, folder, "got.out")
+            return faulty, linked(model, folder, "wanted.out"), linked(program, folder, "got.out")
 
-    with ThreadPoolExecutor(max_workers=4) as pool:
-        for number, faulty, wanted, got in pool.map(one, range(count)):
-            faulty_cases += faulty
-            words = wanted[2].split()
-            met = words[2].decode() if len(words) > 2 else f"status {wanted[0]}"
-            rules[met] = rules.get(met, 0) + 1
-            if wanted != got:
-                different += 1
-                print(f"case {number}: wanted {wanted[:3]}, got {got[:3]}" + ("" if wanted[3] == got[3] else ", and the files differ"))
-    return rules, different, faulty_cases
+    def told(number, wanted, got):
+        print(f"case {number}: wanted {wanted[:3]}, got {got[:3]}" + ("" if wanted[3] == got[3] else ", and the files differ"))
+
+    return compared(one, count, told)
 
 
 # A program for both linkers: every section begins with a name that others can see, so that its address can be read off.
@@ -694,23 +672,22 @@ def main():
     if len(sys.argv) < 3:
         print("checks/ld.py: give the path of a reference model, and that of the built c6x")
         return 2
-    model, program = asm.command(sys.argv[1]), asm.command(sys.argv[2])
+    model, program = command(sys.argv[1]), command(sys.argv[2])
     count = int(sys.argv[3]) if len(sys.argv) > 3 else 5000
-    gas, gnu, readelf = sys.argv[4:7] if len(sys.argv) > 6 else map(asm.tool, ("as", "ld", "readelf"))
+    gas, gnu, readelf = sys.argv[4:7] if len(sys.argv) > 6 else map(tool, ("as", "ld", "readelf"))
     apart = 0
     if gnu:
         met, apart, done = against_gnu(program, gnu, min(count, 500))
         kinds = ", ".join(f"kind {kind} {times}" for kind, times in sorted(met.items()))
-        print(f"GNU ld: {done} programs, fields in both files: {kinds}; " + (f"{apart} differences" if apart else "no difference found"))
+        print(f"GNU ld: {done} programs, fields in both files: {kinds}; " + verdict(apart))
     else:
         print("GNU ld: no tic6x binutils are here")
     if readelf:
         read, misread = against_readelf(program, readelf, min(count, 200))
-        print(f"readelf: {read} libraries; " + (f"{misread} differences" if misread else "no difference found"))
+        print(f"readelf: {read} libraries; " + verdict(misread))
         apart += misread
     rules, different, faulty = compare(model, program, gas, count)
-    met = ", ".join(f"{rule} {times}" for rule, times in sorted(rules.items()))
-    print(f"{count} cases, {faulty} with a fault: {met}; " + (f"{different} differences" if different else "no difference found"))
+    print(summed("cases", count, rules, different, faulty))
     return 1 if different or apart else 0
 
 

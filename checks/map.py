@@ -8,15 +8,13 @@ modules, made here byte by byte, and one to eight processes that share some of t
 cases are the same at each run. A case that PROGRAM refuses as X1 NotBuilt is only counted. Where a tic6x `as` and `ld` are given or on the path, a library and two programs of GNU
 ld are mapped too.
 """
-import os
 import random
 import struct
 import subprocess
 import sys
 import tempfile
-from concurrent.futures import ThreadPoolExecutor
 
-import asm
+from comparing import command, compared, outcome, store, summed, tool, verdict
 
 TEXT, DATA = 0x00010000, 0x00012000
 LOCAL, GLOBAL, WEAK = 0, 1, 2
@@ -282,14 +280,8 @@ def files_of(number, folder):
     return faulty
 
 
-def store(folder, name, data):
-    with open(os.path.join(folder, name), "wb") as out:
-        out.write(data)
-
-
 def mapped(program, folder):
-    done = subprocess.run(program + ["map", "run.plan"], cwd=folder, capture_output=True, timeout=600)
-    return done.returncode, done.stdout, done.stderr
+    return outcome(program, folder, ["map", "run.plan"])
 
 
 def difference(wanted, got):
@@ -301,25 +293,17 @@ def difference(wanted, got):
 
 
 def compare(model, program, count):
-    rules, different, faulty_cases = {}, 0, 0
-
     def one(number):
         with tempfile.TemporaryDirectory() as folder:
             faulty = files_of(number, folder)
-            return number, faulty, mapped(model, folder), mapped(program, folder)
+            return faulty, mapped(model, folder), mapped(program, folder)
 
-    with ThreadPoolExecutor(max_workers=4) as pool:
-        for number, faulty, wanted, got in pool.map(one, range(count)):
-            faulty_cases += faulty
-            words = wanted[2].split()
-            met = words[2].decode() if len(words) > 2 else f"status {wanted[0]}"
-            if wanted != got and b" X1 NotBuilt " in got[2]:
-                met = "not built"
-            elif wanted != got:
-                different += 1
-                print(f"case {number}: {difference(wanted, got)}")
-            rules[met] = rules.get(met, 0) + 1
-    return rules, different, faulty_cases
+    def told(number, wanted, got):
+        if b" X1 NotBuilt " in got[2]:
+            return "not built"
+        print(f"case {number}: {difference(wanted, got)}")
+
+    return compared(one, count, told)
 
 
 LIBRARY = """\t.text
@@ -358,7 +342,7 @@ process three a limit 100 stack 128 arg 3
 
 def against_gnu(model, program, gas, gnu):
     """Maps a library and two programs of GNU ld, in its ordinary form and without a symbol table."""
-    different = 0
+    done, different = 0, 0
     with tempfile.TemporaryDirectory() as folder:
         def made(source, name, text, words):
             store(folder, source + ".s", text.encode())
@@ -371,28 +355,30 @@ def against_gnu(model, program, gas, gnu):
                 made(name, f"{name}.out", PROGRAM.format(ord(name)), ["-e", "start", "libq.so", *more])
             store(folder, "run.plan", GNU_PLAN.encode())
             wanted, got = mapped(model, folder), mapped(program, folder)
+            if b" X1 NotBuilt " in got[2]:
+                continue
+            done += 1
             if wanted != got or got[0] != 0:
                 different += 1
                 print(f"GNU ld's modules: {difference(wanted, got)}")
-    return different
+    return done, different
 
 
 def main():
     if len(sys.argv) < 3:
         print("checks/map.py: give the path of a reference model, and that of the built c6x")
         return 2
-    model, program = asm.command(sys.argv[1]), asm.command(sys.argv[2])
+    model, program = command(sys.argv[1]), command(sys.argv[2])
     count = int(sys.argv[3]) if len(sys.argv) > 3 else 5000
-    gas, gnu = (sys.argv[4], sys.argv[5]) if len(sys.argv) > 5 else (asm.tool("as"), asm.tool("ld"))
+    gas, gnu = (sys.argv[4], sys.argv[5]) if len(sys.argv) > 5 else (tool("as"), tool("ld"))
     apart = 0
     if gas and gnu:
-        apart = against_gnu(model, program, gas, gnu)
-        print("GNU ld: a library and two programs, twice; " + (f"{apart} differences" if apart else "no difference found"))
+        done, apart = against_gnu(model, program, gas, gnu)
+        print(f"GNU ld: {done} of 2 plans of a library and two programs are built; " + verdict(apart))
     else:
         print("GNU ld: no tic6x binutils are here")
     rules, different, faulty = compare(model, program, count)
-    met = ", ".join(f"{rule} {times}" for rule, times in sorted(rules.items()))
-    print(f"{count} cases, {faulty} with a fault: {met}; " + (f"{different} differences" if different else "no difference found"))
+    print(summed("cases", count, rules, different, faulty))
     return 1 if different or apart else 0
 
 

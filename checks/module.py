@@ -25,7 +25,8 @@ PROGRAM = sys.argv[2] if len(sys.argv) > 2 and sys.argv[2] else os.path.join(
     HERE, "..", "crates", "c6x_module_probe", "out", "c6x_module_probe")
 CASES = int(sys.argv[3]) if len(sys.argv) > 3 else 20_000
 TOOLS = sys.argv[4] if len(sys.argv) > 4 else ""
-BATCH = 2_000
+
+from comparing import answers, shown  # noqa: E402
 
 sys.path.insert(0, MODEL)
 import asm  # noqa: E402
@@ -50,17 +51,6 @@ GNU = [
     (".text\n.global _start\n_start:\n callp .s2 (f),b3\n b .s2 b3\n nop 5\n.data\n.word _start\n", ["--dsbt-index", "0", "--unresolved-symbols=ignore-in-shared-libs"]),
 ]
 TAGS = (0, 1, 2, 3, 4, 5, 6, 7, 8, 9, 10, 11, 12, 13, 14, 17, 20, 22, 23, 25, 26, 32, 0x70000000, 0x70000001, 0x70000003)
-
-
-def fnv(data):
-    total = 0x811C9DC5
-    for byte in data:
-        total = ((total ^ byte) * 0x01000193) & 0xFFFFFFFF
-    return total
-
-
-def shown(data):
-    return " %d %08x" % (len(data), fnv(data))
 
 
 def answer(data):
@@ -275,6 +265,12 @@ def change_segments(rng, segments):
         rng.shuffle(segments)
 
 
+def kind_of(want):
+    """The rule of an answer, and of L11 its part."""
+    words = want.split()
+    return words[0] + (" " + words[1] if words[0] == "L11" else "")
+
+
 def main():
     rng = random.Random(148)
     ours, theirs = forged() + linked(), foreign()
@@ -282,21 +278,7 @@ def main():
     cases = [elf.write_file(file) for file in whole + long_names()]
     while len(cases) < CASES:
         cases.append(elf.write_file(mutated(rng, rng.choice(theirs if theirs and rng.random() < .4 else ours))))
-    kinds = {}
-    for first in range(0, len(cases), BATCH):
-        batch = cases[first:first + BATCH]
-        text = "".join(case.hex() + "\n" for case in batch)
-        run = subprocess.run([PROGRAM], input=text.encode(), stdout=subprocess.PIPE, check=True)
-        lines = run.stdout.decode().splitlines()
-        if len(lines) != len(batch):
-            sys.exit("checks/module.py: %d answers for %d cases" % (len(lines), len(batch)))
-        for case, line in zip(batch, lines):
-            want = answer(case)
-            words = want.split()
-            kind = words[0] + (" " + words[1] if words[0] == "L11" else "")
-            kinds[kind] = kinds.get(kind, 0) + 1
-            if line != want:
-                sys.exit("checks/module.py: differs at %s\n  model   %s\n  program %s" % (case.hex(), want, line))
+    kinds = answers("checks/module.py", PROGRAM, cases, answer, kind_of)
     print("answers: " + ", ".join("%s %d" % pair for pair in sorted(kinds.items())))
     print("%d cases of %d modules, %d of them of GNU ld, no difference" % (len(cases), len(whole), len(theirs)))
 
