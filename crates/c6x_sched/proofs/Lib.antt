@@ -3,3 +3,4 @@ pub mod Open
 pub mod Moves
 pub mod Plays
 pub mod Unique
+pub mod Whole

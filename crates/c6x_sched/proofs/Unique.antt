@@ -4,16 +4,11 @@ use Rattle.std.specs.Prelude.{IsTrue}
 use Rattle.c6x_machine.specs.Machine.{life}
 use Rattle.c6x_policy.specs.Picks.{is_named, pick_of, effective_process, effective_steps}
 use Rattle.c6x_policy.specs.declared.pick.Pick.{Pick}
+use Rattle.c6x_sched.specs.Left.{turn_of, own_turn}
 use Rattle.c6x_sched.specs.Play.{Game, Played, IsNext, IsPlay, IsOver, counts_of, open_of, state_of}
 
--- the turn that a pick stands for
-abbrev pub turn_of : Game → List Played → Pick → Played
-turn_of g earlier pick =
-    let at = effective_process g.count (open_of g earlier) pick in
-    record { process = at; cycles = min (effective_steps g.quantum pick) (life (g.starts at) - counts_of g earlier at) }
-
 -- a turn of a named kind is the one of its own pick
-next_turn : (g : Game) (earlier : List Played) (t : Played) → IsTrue (is_named g.kind) → IsNext g earlier t → t ≡ turn_of g earlier (pick_of g.kind (state_of g earlier) (open_of g earlier)).0
+pub next_turn : (g : Game) (earlier : List Played) (t : Played) → IsTrue (is_named g.kind) → IsNext g earlier t → t ≡ own_turn g earlier
 next_turn g earlier t named k =
     let same : t ≡ turn_of g earlier k.pick =
     let there : (p c : ℕ) → p ≡ effective_process g.count (open_of g earlier) k.pick → c ≡ min (effective_steps g.quantum k.pick) (life (g.starts p) - counts_of g earlier p) → record { process = p; cycles = c } ≡ turn_of g earlier k.pick = λ p c is done. rw (done, is) refl in

@@ -4,4 +4,5 @@ pub mod Ended
 pub mod Ran
 pub mod Step
 pub mod Play
+pub mod Left
 pub mod Laws

@@ -1,6 +1,6 @@
 //! Facts about the definitions of turns, each the contract of a function that does nothing.
 
-ghost use Rattle.c6x_sched.specs.Laws.{ReadyAreThoseThatRun, OnePlayOfALength, OneWholePlay};
+ghost use Rattle.c6x_sched.specs.Laws.{ReadyAreThoseThatRun, OnePlayOfALength, OneWholePlay, WholePlayIsTold, StateIsLeft};
 
 /// The ready numbers are those of the processes that have not ended.
 pub fn ready_are_those_that_run()
@@ -15,4 +15,14 @@ pub fn one_play_of_a_length()
 /// A policy of a named kind has one play up to the end of every process.
 pub fn one_whole_play()
     ensures { OneWholePlay }
+{}
+
+/// That play is told by the starts and the policy.
+pub fn whole_play_is_told()
+    ensures { WholePlayIsTold }
+{}
+
+/// The state in which every play up to the end of every process leaves a policy of a named kind.
+pub fn state_is_left()
+    ensures { StateIsLeft }
 {}

@@ -13,6 +13,9 @@ mod system;
 mod turn;
 
 pub use c6x_processes::Loaded;
-pub use laws::{one_play_of_a_length, one_whole_play, ready_are_those_that_run};
+pub use laws::{
+    one_play_of_a_length, one_whole_play, ready_are_those_that_run, state_is_left,
+    whole_play_is_told,
+};
 pub use system::System;
 pub use turn::Turn;
