@@ -1,12 +1,9 @@
 -- What the split of words gives is the packet that they spell, or the first rule that they break.
 
-use Rattle.std.proofs.Common.{◌≡◌, ℕ, suc, ◌+◌, ◌-◌, ◌*◌, ◌%◌, ◌<◌, ◌≤◌, ◌⊎◌, inl, inr, ◌↔◌, Bool, true, false, nat_eq, List, [], ◌∷◌, length, get_or, slice_get, Option, Some, None, Result, Ok, Err, IfOk, cond, refl, sym, ◌∙◌, ap, subst, arith}
+use Rattle.std.proofs.Common.{◌≡◌, ℕ, suc, ◌+◌, ◌-◌, ◌%◌, ◌<◌, ◌≤◌, ◌⊎◌, inl, inr, ◌↔◌, Bool, true, false, nat_eq, List, [], ◌∷◌, length, get_or, slice_get, Option, Some, None, Result, Ok, Err, IfOk, cond, refl, sym, ◌∙◌, ap, subst, arith}
 use Rattle.std.specs.List.{list_any}
-use Rattle.std.proofs.lemmas.Option.{slice_get_within}
 use Rattle.std.proofs.lemmas.Bool.{or_cases, or_left, or_right, and_parts, and_from, cases_lt, cond-true, cond-false, eqb-true, eq-eqb, both_ways, false_from_ne_true}
 use Rattle.c6x_spec.specs.Fields.{bits_of}
-use Rattle.c6x_spec.specs.Memory.{Memory}
-use Rattle.c6x_spec.specs.Numbers.{word_at}
 use Rattle.c6x_instr.specs.declared.instr.Instr.{Instr}
 use Rattle.c6x_instr.specs.Spelling.{Spells, IsValid}
 use Rattle.c6x_instr.specs.Decoded.{decoded}
@@ -17,7 +14,7 @@ use Rattle.c6x_packet.specs.declared.error.PacketError.TheVariants.{BadWord, Too
 use Rattle.c6x_packet.specs.declared.rule.PairRule.{PairRule}
 use Rattle.c6x_packet.specs.declared.rule.PairRule.TheVariants.{Unit as UnitRule, Side as SideRule, Cross as CrossRule}
 use Rattle.c6x_packet.specs.Rules.{breaks, some_pair}
-use Rattle.c6x_packet.specs.Packets.{HaveTwo, IsPacket, AreSpelled, IsPacketOf, IsPacketAt, IsChain, IsFirstUnspelled, is_too_long, IsFirstBroken, or_bad, spelled_from, tested, then_tested, split_of}
+use Rattle.c6x_packet.specs.Packets.{HaveTwo, IsPacket, AreSpelled, IsPacketOf, IsChain, IsFirstUnspelled, is_too_long, IsFirstBroken, or_bad, spelled_from, tested, then_tested, split_of}
 
 -- A pair that breaks a rule, by recursion and by places.
 
@@ -306,16 +303,6 @@ split_err words e = (go (spelled_from 0 words) refl, broken_split words e)
 -- What the words spell has instructions that words spell.
 pub packet_valid : (words : List ℕ) (instrs : List Instr) → AreSpelled words instrs → (k : ℕ) (i : Instr) → slice_get instrs k ≡ Some i → IsValid i
 packet_valid words instrs are k i is = (get_or words k 0, at_spelled words instrs k i are is)
-
--- The packet of the words that stand in memory is the packet there.
-pub packet_at : (big : Bool) (m : Memory) (at : ℕ) (words : List ℕ) (instrs : List Instr) → ((k : ℕ) → k < length words → get_or words k 0 ≡ word_at big m.bytes (at - m.base + 4 * k)) → IsPacketOf words instrs → IsPacketAt big m at instrs
-packet_at big m at words instrs there p = record {
-  spelled = λ (k : ℕ) (i : Instr) (is : slice_get instrs k ≡ Some i).
-      let many : length instrs ≡ length words = length_spelled words instrs p.spelled in
-      let within : k < length instrs = slice_get_within instrs k i is in
-      subst (Spells i) (there k (omega arith)) (at_spelled words instrs k i p.spelled is);
-  packet = p.packet;
-}
 
 -- The same of an answer that is the split.
 pub answer_packet : (words : List ℕ) (answer : Result (List Instr) PacketError) → IsChain words → answer ≡ split_of words → (instrs : List Instr) → (answer ≡ Ok instrs) ↔ IsPacketOf words instrs

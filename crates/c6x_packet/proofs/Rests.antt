@@ -1,18 +1,12 @@
 -- Loops over the words and the instructions of a packet, by what is left.
 
-use Rattle.std.proofs.Common.{◌≡◌, ℕ, ◌+◌, ◌<◌, ◌≤◌, ◌||◌, List, [], ◌∷◌, ◌++◌, length, take, drop, get_or, set, Option, Some, None, Result, Ok, Err, refl, sym, ◌∙◌, ap, arith, add-one, drop-cons, append_assoc, length-set}
-use Rattle.std.specs.List.{list_any}
+use Rattle.std.proofs.Common.{◌≡◌, ℕ, ◌+◌, ◌<◌, ◌≤◌, List, [], ◌∷◌, ◌++◌, length, take, drop, get_or, set, Option, Some, None, Result, Ok, Err, refl, sym, ◌∙◌, ap, arith, add-one, drop-cons, append_assoc, length-set}
 use Rattle.std.proofs.lemmas.List.{take_more_set}
 use Rattle.c6x_instr.specs.declared.instr.Instr.{Instr}
 use Rattle.c6x_instr.specs.Decoded.{decoded}
 use Rattle.c6x_packet.specs.declared.error.PacketError.{PacketError}
 use Rattle.c6x_packet.specs.declared.error.PacketError.TheVariants.{BadWord}
-use Rattle.c6x_packet.specs.declared.rule.PairRule.{PairRule}
-use Rattle.c6x_packet.specs.Rules.{breaks, some_pair}
 use Rattle.c6x_packet.specs.Packets.{or_bad, spelled_from}
-
-pub some_pair-rest : (rule : PairRule) (instrs : List Instr) (i : ℕ) (d : Instr) → i < length instrs → some_pair rule (drop i instrs) ≡ (list_any (breaks rule (get_or instrs i d)) (drop (i + 1) instrs) || some_pair rule (drop (i + 1) instrs))
-some_pair-rest rule instrs i d within = ap (some_pair rule) (drop-cons instrs i d within) ∙ rw add-one refl
 
 -- Instructions in front of what the rest of the words give.
 abbrev pub prefixed : List Instr → Result (List Instr) PacketError → Result (List Instr) PacketError

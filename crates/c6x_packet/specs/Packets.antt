@@ -1,8 +1,6 @@
 -- Execute packets (SPRU732, "Parallel Operations"), and the first rule that words break.
 
-use Rattle.std.specs.Prelude.{◌≡◌, ℕ, ◌+◌, ◌-◌, ◌*◌, ◌%◌, ◌<◌, ◌≤◌, nat_eq, Bool, true, false, ◌&&◌, List, [], ◌∷◌, length, slice_get, slice_index, Option, None, Some, Result, Ok, Err, if◌then◌else◌}
-use Rattle.c6x_spec.specs.Memory.{Memory}
-use Rattle.c6x_spec.specs.Numbers.{word_at}
+use Rattle.std.specs.Prelude.{◌≡◌, ℕ, ◌+◌, ◌-◌, ◌%◌, ◌<◌, ◌≤◌, nat_eq, Bool, true, false, ◌&&◌, List, [], ◌∷◌, length, slice_get, slice_index, Option, None, Some, Result, Ok, Err, if◌then◌else◌}
 use Rattle.c6x_instr.specs.declared.instr.Instr.{Instr}
 use Rattle.c6x_instr.specs.Spelling.{Spells}
 use Rattle.c6x_instr.specs.Decoded.{decoded}
@@ -44,11 +42,6 @@ AreSpelled (word ∷ words) (i ∷ instrs) = Spells i word × AreSpelled words i
 -- The words spell a packet.
 pub record IsPacketOf (words : List ℕ) (instrs : List Instr) : Type 0 where
   pub spelled : AreSpelled words instrs
-  pub packet : IsPacket instrs
-
--- The words in memory from an address on spell a packet.
-pub record IsPacketAt (big : Bool) (m : Memory) (at : ℕ) (instrs : List Instr) : Type 0 where
-  pub spelled : (k : ℕ) (i : Instr) → slice_get instrs k ≡ Some i → Spells i (word_at big m.bytes (at - m.base + 4 * k))
   pub packet : IsPacket instrs
 
 -- The words are a chain: one to eight words, each but the last with its p bit set, and the last without it unless there

@@ -4,15 +4,18 @@
 #![tactic(auto)]
 
 mod chain;
+mod crosses;
 mod error;
 mod laws;
 mod packet;
 mod pairs;
 mod rule;
+mod sides;
 mod splitting;
+mod units;
 
 pub use chain::is_chain;
 pub use error::PacketError;
-pub use laws::{packet_at_words, split_is_packet_or_first_broken};
+pub use laws::split_is_packet_or_first_broken;
 pub use packet::Packet;
 pub use splitting::split;
