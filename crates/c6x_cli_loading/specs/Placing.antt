@@ -1,12 +1,14 @@
 -- Whether the processes of a plan are bound and placed.
-use Rattle.std.specs.Prelude.{ℕ, ◌+◌, List, Option, None, Some, Result, Ok, Err}
+use Rattle.std.specs.Prelude.{◌≡◌, ℕ, ◌+◌, All, List, length, Option, None, Some, Result, Ok, Err}
+use Rattle.c6x_spec.specs.Memory.{CanStart}
 use Rattle.c6x_spec.specs.Results.{◌>>=◌}
+use Rattle.c6x_plan.specs.Limits.{IsProcess, IsRunPlan}
 use Rattle.c6x_plan.specs.declared.process_plan.ProcessPlan.{ProcessPlan}
 use Rattle.c6x_plan.specs.declared.run_plan.RunPlan.{RunPlan}
 use Rattle.c6x_module.specs.declared.module.Module.{Module}
 use Rattle.c6x_bind.specs.Binding.{Refusal as BindRefusal}
 use Rattle.c6x_bind.specs.declared.bound.Bound.{Bound}
-use Rattle.c6x_place.specs.Plans.{bound_plans, placement_of, plans_refusal}
+use Rattle.c6x_place.specs.Plans.{IsPlacement, bound_plans, placement_of, plans_refusal}
 use Rattle.c6x_seats.specs.declared.placement.Placement.{Placement}
 use Rattle.c6x_cli_steps.specs.declared.cause.Cause.{Cause}
 use Rattle.c6x_cli_steps.specs.declared.cause.Cause.TheVariants.{Refused}
@@ -39,3 +41,12 @@ placing name plan modules base len = do
   bound ← binding modules plan.processes
   placement ← placed_or name len (placement_of modules plan.processes bound.processes base (base + len))
   Ok (record { plan = plan; modules = modules; bound = bound; placement = placement })
+
+-- What is so taken in can be loaded in the memory of `len` bytes from `base` on: the plan is within its limits, its
+-- processes are of its modules, and they are bound and placed there.
+pub record CanLoad (base len : ℕ) (loading : Loading) : Type 0 where
+  pub memory : CanStart base len
+  pub plan : IsRunPlan loading.plan
+  pub each : All (IsProcess (length loading.modules)) loading.plan.processes
+  pub bound : loading.bound.processes ≡ bound_plans loading.modules loading.plan.processes
+  pub placed : IsPlacement loading.modules loading.plan.processes loading.bound.processes base (base + len) loading.placement

@@ -1,7 +1,8 @@
 ghost use Rattle.std.specs.Prelude.{◌≡◌, ◌+◌, ◌≤◌, All, IfOk, length};
 ghost use Rattle.c6x_spec.specs.Memory.{CanStart};
-ghost use Rattle.c6x_place.specs.Plans.{IsKnown, placement_of};
-ghost use Rattle.c6x_cli_loading.specs.Placing.{binding, placed_or, placing};
+ghost use Rattle.c6x_place.specs.Plans.{IsKnown, IsPlacement, bound_plans, placement_of};
+ghost use Rattle.c6x_plan.specs.Limits.{IsProcess, IsRunPlan};
+ghost use Rattle.c6x_cli_loading.specs.Placing.{CanLoad, binding, placed_or, placing};
 ghost use Rattle.c6x_cli_steps.specs.Steps.{Decides};
 
 use crate::labels::{bind_label, room_label};
@@ -27,10 +28,11 @@ pub fn place_plan(
     base: u32,
     len: u32,
 ) -> Result<Loading, PrepareError>
-    requires known { All (IsKnown modules) plan.processes }
-    requires few { length plan.processes ≤ MOST_PROCESSES }
+    requires plan { IsRunPlan plan }
+    requires each { All (IsProcess (length modules)) plan.processes }
     requires memory { CanStart base len }
-    ensures { Decides (λ loading. loading) (placing name.now plan modules base len) result }
+    ensures decides { Decides (λ loading. loading) (placing name.now plan modules base len) result }
+    ensures loads { IfOk result (CanLoad base len) }
 {
     let processes = plan.processes.as_slice();
     let bound = bind_plan(alloc, &modules, processes)?;
@@ -53,6 +55,7 @@ fn bind_plan(
     requires known { All (IsKnown modules.now) processes.now }
     requires few { length processes.now ≤ MOST_PROCESSES }
     ensures decides { Decides (λ bound. bound) (binding modules.now processes.now) result }
+    ensures value { IfOk result (λ bound. bound.processes ≡ bound_plans modules.now processes.now) }
     ensures count { IfOk result (λ bound. length bound.processes ≡ length processes.now) }
 {
     match bind(alloc, modules, processes) {
@@ -81,7 +84,8 @@ fn place_bound(
 ) -> Result<Placement, PrepareError>
     requires same { length bound.now.processes ≡ length processes.now }
     requires memory { CanStart base len }
-    ensures { Decides (λ placement. placement) (placed_or name.now len (placement_of modules.now processes.now bound.now.processes base (base + len))) result }
+    ensures decides { Decides (λ placement. placement) (placed_or name.now len (placement_of modules.now processes.now bound.now.processes base (base + len))) result }
+    ensures stands { IfOk result (IsPlacement modules.now processes.now bound.now.processes base (base + len)) }
 {
     match place(alloc, modules, processes, bound, base, len) {
         Ok(placement) => Ok(placement),

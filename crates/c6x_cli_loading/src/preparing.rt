@@ -1,6 +1,7 @@
-ghost use Rattle.std.specs.Prelude.{◌≡◌};
+ghost use Rattle.std.specs.Prelude.{◌≡◌, IfOk};
 ghost use Rattle.c6x_spec.specs.Memory.{CanStart};
 ghost use Rattle.c6x_cli_loading.specs.Loading.{loading_steps};
+ghost use Rattle.c6x_cli_loading.specs.Placing.{CanLoad};
 ghost use Rattle.c6x_cli_steps.specs.Steps.{Prepares};
 
 use crate::images::fetch_modules;
@@ -21,7 +22,8 @@ pub fn prepare_loading<S: Shelf>(
     len: u32,
 ) -> Result<Loading, PrepareError>
     requires { CanStart base len }
-    ensures { Prepares (λ loading. loading) (λ told. loading_steps told name.now base len) (S.seen shelf.old) (S.seen shelf.new) result }
+    ensures prepares { Prepares (λ loading. loading) (λ told. loading_steps told name.now base len) (S.seen shelf.old) (S.seen shelf.new) result }
+    ensures loads { IfOk result (CanLoad base len) }
 {
     let plan = fetch_plan(alloc, shelf, name)?;
     let modules = fetch_modules(alloc, shelf, plan.modules.as_slice())?;

@@ -1,5 +1,5 @@
 use Rattle.std.proofs.Common.{◌≡◌, ◌≢◌, ℕ, ◌≤◌, ◌<◌, ◌%◌, Bool, true, false, List, ◌++◌, ◌∷◌, [], length, refl, sym, ◌∙◌, subst, arith, lit≤, length-append, get_or}
-use Rattle.std.specs.Prelude.{Option, None, Some, Result, Ok, Err, All, AllPairs, IfOk, codes, not, ◌||◌, ◌&&◌, ◌==◌, nat_le, map, if◌then◌else◌}
+use Rattle.std.specs.Prelude.{Option, None, Some, Result, Ok, Err, All, AllPairs, IfOk, IfSome, unwrap_or, codes, not, ◌||◌, ◌&&◌, ◌==◌, nat_le, map, if◌then◌else◌}
 use Rattle.std.specs.List.{list_any, position_or_len}
 use Rattle.std.specs.Option.{option_map}
 use Rattle.std.specs.Str.{bytes_eq}
@@ -10,7 +10,7 @@ use Rattle.std.proofs.lemmas.List.Folds.{list_any-append, list_any_at}
 use Rattle.std.proofs.lemmas.List.Quantifiers.{all_pairs_push}
 use Rattle.std.proofs.lemmas.Slice.Eq.{bytes_eq-Decides}
 use Rattle.c6x_spec.specs.Options.{◌>>=◌}
-use Rattle.c6x_plan.specs.declared.limits.TheConstants.{MOST_MODULES, MOST_PROCESSES, MOST_CYCLES, LEAST_STACK, MOST_STACK}
+use Rattle.c6x_plan.specs.declared.limits.TheConstants.{MOST_MODULES, MOST_PROCESSES, MOST_CYCLES, MOST_QUANTUM, QUANTUM, LEAST_STACK, MOST_STACK}
 use Rattle.c6x_plan.specs.declared.line.Sizes.{Sizes}
 use Rattle.c6x_plan.specs.declared.module_plan.ModulePlan.{ModulePlan}
 use Rattle.c6x_plan.specs.declared.run_draft.RunDraft.{RunDraft}
@@ -18,7 +18,7 @@ use Rattle.c6x_plan.specs.declared.run_line.ProcessLine.{ProcessLine}
 use Rattle.c6x_plan.specs.declared.run_line.RunLine.{RunLine}
 use Rattle.c6x_plan.specs.declared.run_line.RunLine.TheVariants.{Quantum, Module, Process}
 use Rattle.c6x_plan.specs.declared.run_plan.RunPlan.{RunPlan}
-use Rattle.c6x_plan.specs.Limits.{AreSizes, HaveOtherNames, IsProcess, IsRunPlan}
+use Rattle.c6x_plan.specs.Limits.{AreSizes, HaveOtherNames, IsProcess, IsQuantum, IsRunPlan}
 use Rattle.c6x_plan.specs.Lines.{Said}
 use Rattle.c6x_plan.specs.RunDrafts.{draft_rule, draft_with, plan_drafted, run_draft_of}
 use Rattle.c6x_plan.specs.RunLines.{has_module, module_line, name_or_count, number_behind, process_line, quantum_line, run_line, sizes_in}
@@ -35,6 +35,7 @@ IsNamed modules process = has_module modules process.image ≡ true
 
 -- a draft within the limits of a plan
 record IsWithin (draft : RunDraft) : Type 0 where
+  pub quantum : IfSome draft.quantum IsQuantum
   pub modules : length draft.modules ≤ 32
   pub distinct : AllPairs HaveOtherNames draft.modules
   pub processes : length draft.processes ≤ 16
@@ -43,7 +44,7 @@ record IsWithin (draft : RunDraft) : Type 0 where
 
 -- the numbers of a line are within their limits
 abbrev IsSizedLine : RunLine → Type 0
-IsSizedLine (Quantum quantum) = Unit {0}
+IsSizedLine (Quantum quantum) = IsQuantum quantum
 IsSizedLine (Module image) = Unit {0}
 IsSizedLine (Process process) = HasSizes process
 
@@ -121,17 +122,18 @@ module_sized : (key name file : List ℕ) (m : RunLine) → module_line key name
 unfolding module_line
 module_sized key name file m is = module_if _ (record { name = name; file = file }) m is
 
-quantum_mapped : (found : Option ℕ) (m : RunLine) → option_map Quantum found ≡ Some m → IsSizedLine m
-quantum_mapped None m is = absurd (cc)
-quantum_mapped (Some n) m is = this (Quantum n) m tt is
+quantum_mapped : (found : Option ℕ) (m : RunLine) → ((n : ℕ) → found ≡ Some n → IsQuantum n) → option_map Quantum found ≡ Some m → IsSizedLine m
+quantum_mapped None m all is = absurd (cc)
+quantum_mapped (Some n) m all is = this (Quantum n) m (all n refl) is
 
-quantum_if : (test : Bool) (found : Option ℕ) (m : RunLine) → (if test then option_map Quantum found else None) ≡ Some m → IsSizedLine m
-quantum_if true found m is = quantum_mapped found m is
-quantum_if false found m is = absurd (cc)
+quantum_if : (test : Bool) (found : Option ℕ) (m : RunLine) → ((n : ℕ) → found ≡ Some n → IsQuantum n) → (if test then option_map Quantum found else None) ≡ Some m → IsSizedLine m
+quantum_if true found m all is = quantum_mapped found m all is
+quantum_if false found m all is = absurd (cc)
 
 quantum_sized : (key word : List ℕ) (m : RunLine) → quantum_line key word ≡ Some m → IsSizedLine m
 unfolding quantum_line
-quantum_sized key word m is = quantum_if (bytes_eq key (codes "quantum")) _ m is
+quantum_sized key word m is =
+    quantum_if (bytes_eq key (codes "quantum")) (number_in 1 MOST_QUANTUM word) m (number_within 1 MOST_QUANTUM word) is
 
 line_sized : (words : List (List ℕ)) (m : RunLine) → run_line words ≡ Some m → IsSizedLine m
 unfolding run_line
@@ -171,8 +173,9 @@ still_named modules image name is = list_any-append (λ (m : ModulePlan). bytes_
 
 by_line : (d : RunDraft) (m : RunLine) → IsSizedLine m → draft_rule d m ≡ None → IsWithin d → IsWithin (draft_with d m)
 unfolding draft_rule draft_with
-by_line d (Quantum quantum) sized is w = record { modules = w.modules; distinct = w.distinct; processes = w.processes; named = w.named; sizes = w.sizes }
+by_line d (Quantum quantum) sized is w = record { quantum = sized; modules = w.modules; distinct = w.distinct; processes = w.processes; named = w.named; sizes = w.sizes }
 by_line d (Module image) sized is w = record {
+  quantum = w.quantum;
   modules = one_more MOST_MODULES d.modules image (not_full _ _ is);
   distinct = all_pairs_push HaveOtherNames d.modules image w.distinct (other_name d.modules image (not_named _ _ is));
   processes = w.processes;
@@ -180,6 +183,7 @@ by_line d (Module image) sized is w = record {
   sizes = w.sizes;
 }
 by_line d (Process process) sized is w = record {
+  quantum = w.quantum;
   modules = w.modules;
   distinct = w.distinct;
   processes = one_more MOST_PROCESSES d.processes process (not_full _ _ is);
@@ -189,6 +193,7 @@ by_line d (Process process) sized is w = record {
 
 none_within : IsWithin (run_draft_of [])
 none_within = record {
+  quantum = tt;
   modules = lit≤ tt;
   distinct = λ i j d before inside. absurd (grind (arith));
   processes = lit≤ tt;
@@ -215,12 +220,24 @@ each_known : (modules : List ModulePlan) (lines : List ProcessLine) → All (IsN
 each_known modules lines named sizes =
     All-map (IsProcess (length modules)) (process_of modules) lines (λ k d inside. process_known modules (get_or lines k d) (named k d inside) (sizes k d inside))
 
--- so a plan that was read is within its limits
-pub draft_within : (lines : List Said) (draft : RunDraft) → drafted run_line draft_rule draft_with (run_draft_of []) lines ≡ Ok draft → IsRunPlan (plan_drafted draft)
-draft_within lines draft all =
-    let w = drafted_keeps run_line draft_rule draft_with IsWithin (λ d words m meant is within. by_line d m (line_sized words m meant) is within) lines (run_draft_of []) draft all none_within in
-    record { modules = w.modules; distinct = w.distinct; processes = rw length-map w.processes; each = each_known draft.modules draft.processes w.named w.sizes }
+quantum_or : (quantum : Option ℕ) → IfSome quantum IsQuantum → IsQuantum (unwrap_or quantum QUANTUM)
+quantum_or None is = (lit≤ tt, lit≤ tt)
+quantum_or (Some n) is = is
 
-pub all_within : {E : Type 0} (result : Result RunPlan E) (draft : RunDraft) → IfOk result (λ plan. plan ≡ plan_drafted draft) → IsRunPlan (plan_drafted draft) → IfOk result IsRunPlan
-all_within (Ok plan) draft is within = subst IsRunPlan (sym is) within
-all_within (Err error) draft is within = tt
+-- so a plan that was read is within its limits
+pub draft_within : (lines : List Said) (draft : RunDraft) → drafted run_line draft_rule draft_with (run_draft_of []) lines ≡ Ok draft → 1 ≤ length (plan_drafted draft).processes → IsRunPlan (plan_drafted draft)
+draft_within lines draft all some =
+    let w = drafted_keeps run_line draft_rule draft_with IsWithin (λ d words m meant is within. by_line d m (line_sized words m meant) is within) lines (run_draft_of []) draft all none_within in
+    record {
+      quantum = quantum_or draft.quantum w.quantum;
+      modules = w.modules;
+      distinct = w.distinct;
+      some = some;
+      processes = rw length-map w.processes;
+      each = each_known draft.modules draft.processes w.named w.sizes;
+    }
+
+pub all_within : {E : Type 0} (result : Result RunPlan E) (draft : RunDraft) → IfOk result (λ plan. plan ≡ plan_drafted draft) → IfOk result (λ plan. 1 ≤ length plan.processes) → (1 ≤ length (plan_drafted draft).processes → IsRunPlan (plan_drafted draft)) → IfOk result IsRunPlan
+all_within (Ok plan) draft is some within =
+    subst IsRunPlan (sym is) (within (subst (λ (p : RunPlan). 1 ≤ length p.processes) is some))
+all_within (Err error) draft is some within = tt

@@ -1,7 +1,7 @@
 -- What is true of the counts, names and numbers of a plan that was read.
 use Rattle.std.specs.Prelude.{◌≡◌, ◌≢◌, ℕ, ◌≤◌, ◌<◌, ◌%◌, All, AllPairs, IfSome, List, length}
 use Rattle.c6x_base.specs.declared.limits.TheConstants.{MOST_NAME_BYTES}
-use Rattle.c6x_plan.specs.declared.limits.TheConstants.{MOST_NEEDED, MOST_OBJECTS, MOST_MODULES, MOST_PROCESSES, MOST_CYCLES, LEAST_STACK, MOST_STACK}
+use Rattle.c6x_plan.specs.declared.limits.TheConstants.{MOST_NEEDED, MOST_OBJECTS, MOST_MODULES, MOST_PROCESSES, MOST_CYCLES, MOST_QUANTUM, LEAST_STACK, MOST_STACK}
 use Rattle.c6x_plan.specs.declared.link_plan.LinkPlan.{LinkPlan}
 use Rattle.c6x_plan.specs.declared.module_plan.ModulePlan.{ModulePlan}
 use Rattle.c6x_plan.specs.declared.process_plan.ProcessPlan.{ProcessPlan}
@@ -34,9 +34,14 @@ pub record IsProcess (modules : ℕ) (process : ProcessPlan) : Type 0 where
   pub known : process.«module» < modules
   pub sizes : AreSizes process.limit process.stack
 
+abbrev pub IsQuantum : ℕ → Type 0
+IsQuantum quantum = (1 ≤ quantum) × (quantum ≤ MOST_QUANTUM)
+
 -- A plan is within its limits.
 pub record IsRunPlan (plan : RunPlan) : Type 0 where
+  pub quantum : IsQuantum plan.quantum
   pub modules : length plan.modules ≤ MOST_MODULES
   pub distinct : AllPairs HaveOtherNames plan.modules
+  pub some : 1 ≤ length plan.processes
   pub processes : length plan.processes ≤ MOST_PROCESSES
   pub each : All (IsProcess (length plan.modules)) plan.processes

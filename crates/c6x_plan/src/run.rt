@@ -57,6 +57,7 @@ fn finished(alloc: Global, draft: RunDraft) -> Result<RunPlan, PlanError>
     requires { length draft.modules ≤ 32 }
     ensures reads { Reads result (finished draft) }
     ensures value { IfOk result (λ plan. plan ≡ plan_drafted draft) }
+    ensures some { IfOk result (λ plan. 1 ≤ length plan.processes) }
 {
     if draft.processes.as_slice().is_empty() {
         return Err(PlanError::Count { line: 0 });

@@ -3,20 +3,20 @@ use Rattle.c6x_cli_steps.proofs.Chains.{prepares_first, prepares_then, prepares_
 use Rattle.c6x_cli_loading.specs.Loading.{loading_steps}
 use Rattle.c6x_cli_loading.proofs.preparing.prepare_loading.Goals as goal
 
-pub returns-in_err-plan : goal.returns-in_err-plan
+pub returns-in_err-plan-clause-prepares : goal.returns-in_err-plan-clause-prepares
 unfolding loading_steps
-returns-in_err-plan g c =
+returns-in_err-plan-clause-prepares g c =
     prepares_first (λ plan. plan) (λ loading. loading) _ _ _ _ _ _ (search rules) c.in_err-plan.ensures.prepares
 
-pub returns-in_err-modules : goal.returns-in_err-modules
+pub returns-in_err-modules-clause-prepares : goal.returns-in_err-modules-clause-prepares
 unfolding loading_steps
-returns-in_err-modules g c =
+returns-in_err-modules-clause-prepares g c =
     prepares_then (λ plan. plan) (λ loading. loading) _ _ _ _ _ _ _ c.in_ok-plan.ensures.prepares
     (prepares_first (λ modules. modules) (λ loading. loading) _ _ _ _ c.in_err-modules.field-0.0 _ (search rules) (rw (← c.as_slice.ensures) c.in_err-modules.ensures.prepares))
 
-pub returns : goal.returns
+pub returns-clause-prepares : goal.returns-clause-prepares
 unfolding loading_steps
-returns g c =
+returns-clause-prepares g c =
     prepares_then (λ plan. plan) (λ loading. loading) _ _ _ _ _ _ _ c.in_ok-plan.ensures.prepares
     (prepares_then (λ modules. modules) (λ loading. loading) _ _ _ _ _ _ _ (rw (← c.as_slice.ensures) c.in_ok-modules.ensures.prepares)
-    (prepares_own (λ loading. loading) _ _ _ c.place_plan.ensures))
+    (prepares_own (λ loading. loading) _ _ _ c.place_plan.ensures.decides))

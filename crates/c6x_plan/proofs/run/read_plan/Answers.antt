@@ -12,4 +12,4 @@ returns-clause-reads c =
 
 pub returns-clause-within : goal.returns-clause-within
 returns-clause-within c =
-    all_within c.finished.result c.in_ok-draft.draft c.finished.ensures.value (draft_within (lines_left c.in_ok-lines.lines) c.in_ok-draft.draft c.in_ok-draft.ensures)
+    all_within c.finished.result c.in_ok-draft.draft c.finished.ensures.value c.finished.ensures.some (draft_within (lines_left c.in_ok-lines.lines) c.in_ok-draft.draft c.in_ok-draft.ensures)
