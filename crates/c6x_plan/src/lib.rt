@@ -31,6 +31,7 @@ pub use error::PlainPlanError;
 pub use link::read_link_plan;
 pub use link_plan::LinkPlan;
 pub use module_plan::ModulePlan;
+pub use number::number_in;
 pub use plain::read_plain_plan;
 pub use plan::PlainPlan;
 pub use plan_error::PlanError;
