@@ -39,6 +39,7 @@ class Module:
         self.text_align, self.data_align = rng.choice([0, 1, 32, 32, 64, 256]), rng.choice([0, 1, 4, 8, 32])
         self.entry, self.text_more, self.tags, self.missing = TEXT, 0, [], []
         self.within, self.base = False, DATA
+        self.words = None
 
     def symbol(self, name, value, binding, other, section, kind=0):
         self.symbols.append((name, value, binding << 4 | kind, other, section))
@@ -53,7 +54,7 @@ class Module:
             if name and name not in places:
                 places[name] = len(strings)
                 strings += name.encode() + b"\0"
-        text = rng.randbytes(self.code)
+        text = rng.randbytes(self.code) if self.words is None else b"".join(struct.pack("<I", word) for word in self.words)
         tags = [(NEEDED, places[name]) for name in self.needed]
 
         def table(tag, data):
