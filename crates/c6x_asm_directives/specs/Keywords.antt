@@ -1,6 +1,7 @@
 -- The names of directives, in lower case: this project's own.
-use Rattle.std.specs.Prelude.{ℕ, List, [], ◌∷◌, Option, find, codes}
+use Rattle.std.specs.Prelude.{ℕ, List, [], ◌∷◌, Option, codes}
 use Rattle.std.specs.Str.{bytes_eq}
+use Rattle.c6x_asm_lines.specs.Names.{first_named}
 use Rattle.c6x_asm_directives.specs.declared.keyword.Keyword.{Keyword}
 use Rattle.c6x_asm_directives.specs.declared.keyword.Keyword.TheVariants.{Sect, Word, Half, Byte, Space, Align, Global, Weak, Hidden, Common, NearCommon, Set}
 
@@ -22,4 +23,4 @@ abbrev pub keywords : List Keyword
 keywords = Sect ∷ Word ∷ Half ∷ Byte ∷ Space ∷ Align ∷ Global ∷ Weak ∷ Hidden ∷ Common ∷ NearCommon ∷ Set ∷ []
 
 unfoldable pub keyword_of : List ℕ → Option Keyword
-keyword_of word = find (λ k. bytes_eq word (keyword_name k)) keywords
+keyword_of word = first_named (λ k w. bytes_eq w (keyword_name k)) keywords word

@@ -1,8 +1,9 @@
 ghost use Rattle.std.specs.Prelude.{◌≡◌, codes};
+ghost use Rattle.std.specs.Str.{bytes_eq};
 ghost use Rattle.c6x_asm_directives.specs.Keywords.{keyword_name, keyword_of};
 
 use crate::keyword::Keyword;
-use c6x_asm_lines::same_bytes;
+use c6x_asm_lines::{Names, row_named, same_bytes};
 
 const KEYWORDS: [Keyword; 12] = [
     Keyword::Sect,
@@ -38,13 +39,20 @@ fn keyword_name(keyword: Keyword) -> &'static [u8]
     }
 }
 
+struct KeywordNames;
+
+impl Names<Keyword> for KeywordNames {
+    ghost is_name = { λ keyword word. bytes_eq word (keyword_name keyword) };
+
+    fn is_name(row: Keyword, word: &[u8]) -> bool {
+        same_bytes(word, keyword_name(row))
+    }
+}
+
 /// The directive with this name.
 #[tactic(auto, unfolding(crate::specs::Keywords::keyword_of))]
 pub fn keyword_of(word: &[u8]) -> Option<Keyword>
     ensures { result ≡ keyword_of word.now }
 {
-    KEYWORDS
-        .iter()
-        .copied()
-        .find(|keyword| same_bytes(word, keyword_name(*keyword)))
+    row_named::<KeywordNames, _>(&KEYWORDS, word)
 }

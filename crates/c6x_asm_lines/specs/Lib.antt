@@ -4,3 +4,4 @@ pub mod Digits
 pub mod Operands
 pub mod Bytes
 pub mod Rules
+pub mod Names

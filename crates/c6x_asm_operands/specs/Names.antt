@@ -1,6 +1,6 @@
 -- The names of mnemonics, units and relocation kinds (SPRU732, SPRAB89; the spelling of units is TI's, that of kinds is
 -- this project's own).
-use Rattle.std.specs.Prelude.{ℕ, ◌==◌, ◌||◌, Bool, if◌then◌else◌, List, [], ◌∷◌, Option, Some, None, find, codes}
+use Rattle.std.specs.Prelude.{ℕ, ◌==◌, ◌||◌, Bool, if◌then◌else◌, List, [], ◌∷◌, Option, Some, None, codes}
 use Rattle.std.specs.Option.{option_map}
 use Rattle.std.specs.Str.{bytes_eq, str_eq_ignore_ascii_case}
 use Rattle.c6x_base.specs.declared.side.Side.{Side}
@@ -13,6 +13,7 @@ use Rattle.c6x_instr.specs.declared.move_kind.MoveKind.{MoveKind}
 use Rattle.c6x_instr.specs.declared.move_kind.MoveKind.TheVariants.{Mvk, Mvkh, Addk}
 use Rattle.c6x_instr.specs.declared.unit_kind.UnitKind.{UnitKind}
 use Rattle.c6x_instr.specs.declared.unit_kind.UnitKind.TheVariants.{L, S, D, M}
+use Rattle.c6x_asm_lines.specs.Names.{first_named}
 use Rattle.c6x_reloc.specs.Table.{kinds}
 use Rattle.c6x_reloc.specs.declared.reloc_kind.RelocKind.{RelocKind}
 use Rattle.c6x_reloc.specs.declared.reloc_kind.RelocKind.TheVariants.{NONE, ABS32, ABS16, ABS8, PCR_S21, PCR_S12, PCR_S7, ABS_S16, ABS_L16, ABS_H16, SBR_U15_B, SBR_U15_H, SBR_U15_W, SBR_S16, SBR_L16_B, SBR_L16_H, SBR_L16_W, SBR_H16_B, SBR_H16_H, SBR_H16_W, SBR_GOT_U15_W, SBR_GOT_L16_W, SBR_GOT_H16_W, DSBT_INDEX, JUMP_SLOT, ALIGN, FPHEAD, NOCMP}
@@ -73,7 +74,7 @@ mnemonics =
 
 -- the mnemonic with this name, in either case
 unfoldable pub mnemonic_of : List ℕ → Option Mnemonic
-mnemonic_of word = find (λ m. str_eq_ignore_ascii_case word (mnemonic_name m)) mnemonics
+mnemonic_of word = first_named (λ m w. str_eq_ignore_ascii_case w (mnemonic_name m)) mnemonics word
 
 abbrev pub kind_name : RelocKind → List ℕ
 kind_name NONE = codes "none"
@@ -107,7 +108,7 @@ kind_name NOCMP = codes "nocmp"
 
 -- the relocation kind with this lower-case name
 unfoldable pub kind_of : List ℕ → Option RelocKind
-kind_of word = find (λ k. bytes_eq word (kind_name k)) kinds
+kind_of word = first_named (λ k w. bytes_eq w (kind_name k)) kinds word
 
 -- a letter in either case
 abbrev pub is_letter : ℕ → ℕ → ℕ → Bool

@@ -1,5 +1,5 @@
 -- The operands of instructions.
-use Rattle.std.specs.Prelude.{ℕ, ◌+◌, nat_le, ◌==◌, Bool, true, false, ◌&&◌, if◌then◌else◌, List, [], length, Option, Some, None, Result, Ok, Err, slice_range}
+use Rattle.std.specs.Prelude.{ℕ, ◌==◌, Bool, true, false, ◌&&◌, if◌then◌else◌, List, Option, Some, None, Result, Ok, Err}
 use Rattle.c6x_base.specs.declared.side.Side.{Side}
 use Rattle.c6x_base.specs.declared.side.Side.TheVariants.{A, B}
 use Rattle.c6x_reloc.specs.Table.{row_of}

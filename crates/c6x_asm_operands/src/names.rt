@@ -1,11 +1,11 @@
 ghost use Rattle.std.specs.Prelude.{◌≡◌, codes};
-ghost use Rattle.std.specs.Str.{str_eq_ignore_ascii_case};
+ghost use Rattle.std.specs.Str.{bytes_eq, str_eq_ignore_ascii_case};
 ghost use Rattle.c6x_asm_operands.specs.Names.{arith_name, move_name, access_name, mnemonic_name, mnemonic_of, kind_name, kind_of, unit_side, crossing_kind, unit_kind, memory_kind, cross_path, value_path, unit_with, unit_of};
 
 use crate::data_path::DataPath;
 use crate::mnemonic::Mnemonic;
 use crate::unit::Unit;
-use c6x_asm_lines::same_bytes;
+use c6x_asm_lines::{Names, row_named, same_bytes};
 use c6x_base::Side;
 use c6x_instr::{Access, Arith, MoveKind, UnitKind};
 use c6x_reloc::RelocKind;
@@ -145,15 +145,22 @@ fn same_letters(word: &[u8], name: &[u8]) -> bool
     word.eq_ignore_ascii_case(name)
 }
 
+struct MnemonicNames;
+
+impl Names<Mnemonic> for MnemonicNames {
+    ghost is_name = { λ mnemonic word. str_eq_ignore_ascii_case word (mnemonic_name mnemonic) };
+
+    fn is_name(row: Mnemonic, word: &[u8]) -> bool {
+        same_letters(word, mnemonic_name(row))
+    }
+}
+
 /// The mnemonic with this name, in either case.
 #[tactic(auto, unfolding(crate::specs::Names::mnemonic_of))]
 pub fn mnemonic_of(word: &[u8]) -> Option<Mnemonic>
     ensures { result ≡ mnemonic_of word.now }
 {
-    MNEMONICS
-        .iter()
-        .copied()
-        .find(|mnemonic| same_letters(word, mnemonic_name(*mnemonic)))
+    row_named::<MnemonicNames, _>(&MNEMONICS, word)
 }
 
 fn kind_name(kind: RelocKind) -> &'static [u8]
@@ -191,15 +198,22 @@ fn kind_name(kind: RelocKind) -> &'static [u8]
     }
 }
 
+struct KindNames;
+
+impl Names<RelocKind> for KindNames {
+    ghost is_name = { λ kind word. bytes_eq word (kind_name kind) };
+
+    fn is_name(row: RelocKind, word: &[u8]) -> bool {
+        same_bytes(word, kind_name(row))
+    }
+}
+
 /// The relocation kind with this lower-case name.
 #[tactic(auto, unfolding(crate::specs::Names::kind_of))]
 pub fn kind_of(word: &[u8]) -> Option<RelocKind>
     ensures { result ≡ kind_of word.now }
 {
-    KINDS
-        .iter()
-        .copied()
-        .find(|kind| same_bytes(word, kind_name(*kind)))
+    row_named::<KindNames, _>(&KINDS, word)
 }
 
 fn unit_side(b: u8) -> Option<Side>
