@@ -8,3 +8,5 @@ mod operations;
 mod units;
 
 pub use instructions::instruction_of;
+pub use memory::{is_store, size_of};
+pub use units::{is_swapped, other_side};

@@ -7,7 +7,8 @@ use c6x_asm_operands::{DataPath, Place, RelocatableOp, place_of, register_operan
 use c6x_base::Side;
 use c6x_instr::{Access, Op};
 
-fn size_of(access: Access) -> u32
+/// How many bytes a load or a store accesses.
+pub fn size_of(access: Access) -> u32
     ensures is { result ≡ size_of access }
     ensures some { 1 ≤ result }
     ensures few { result ≤ 4 }
@@ -19,7 +20,8 @@ fn size_of(access: Access) -> u32
     }
 }
 
-fn is_store(access: Access) -> bool
+/// Whether the access is a store, whose register is written first.
+pub fn is_store(access: Access) -> bool
     ensures { result ≡ is_store access }
 {
     matches!(access, Access::Stb | Access::Sth | Access::Stw)

@@ -5,6 +5,7 @@ use c6x_asm_operands::DataPath;
 use c6x_base::Side;
 use c6x_instr::{Arith, UnitKind};
 
+/// The other side, whose register a cross path reads.
 pub fn other_side(side: Side) -> Side
     ensures { result ≡ other_side side }
 {
@@ -81,6 +82,7 @@ pub fn is_s(unit: UnitKind) -> bool
     matches!(unit, UnitKind::S)
 }
 
+/// Whether the second operand is written first, and a constant has no sign: in .D and in shifts.
 pub fn is_swapped(unit: UnitKind, arith: Arith) -> bool
     ensures { result ≡ is_swapped unit arith }
 {
