@@ -1,8 +1,7 @@
 -- The bytes of the areas of a process.
-use Rattle.std.proofs.Common.{◌≡◌, ℕ, ◌+◌, ◌<◌, ◌≤◌, Bool, true, false, ◌||◌, refl, arith}
-use Rattle.std.proofs.lemmas.Bool.Decides.{nat_tests}
+use Rattle.std.proofs.Common.{◌≡◌, ℕ, Bool, true, false, ◌||◌, refl}
 use Rattle.c6x_module.specs.declared.module.Module.{Module}
-use Rattle.c6x_access.specs.Rights.{is_own as is_in_areas, is_inside}
+use Rattle.c6x_access.specs.Rights.{is_own as is_in_areas}
 use Rattle.c6x_load.specs.declared.one.One.{One}
 use Rattle.c6x_load.specs.Start.{is_own, is_within, areas_of_one}
 

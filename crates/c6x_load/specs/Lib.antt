@@ -1,3 +1,5 @@
 pub mod Placement
 pub mod Start
 pub mod Loaded
+pub mod Starts
+pub mod Made

@@ -1,4 +1,4 @@
-use Rattle.std.specs.Prelude.{◌≡◌, ℕ, ◌+◌, ◌-◌, ◌%◌, ◌^◌, ◌<◌, ◌≤◌, max, nat_le, Option, None, Some, if◌then◌else◌}
+use Rattle.std.specs.Prelude.{◌≡◌, ℕ, ◌+◌, ◌%◌, ◌^◌, ◌<◌, ◌≤◌, max, nat_le, Option, None, Some, if◌then◌else◌}
 use Rattle.c6x_spec.specs.Options.{◌>>=◌}
 use Rattle.c6x_spec.specs.Places.{IsLeastPlace, least_place}
 use Rattle.c6x_elf.specs.declared.segment.Segment.{Segment}

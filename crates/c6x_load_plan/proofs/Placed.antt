@@ -1,5 +1,5 @@
 -- What a placement says of the parts of a plan: they stand in order, so they share no address and lie on the memory.
-use Rattle.std.proofs.Common.{◌≡◌, ℕ, zero, suc, ◌+◌, ◌^◌, ◌<◌, Bool, true, false, List, [], ◌∷◌, ◌++◌, length, refl, sym, ap, ◌∙◌, subst, arith}
+use Rattle.std.proofs.Common.{◌≡◌, ℕ, zero, suc, ◌+◌, ◌^◌, ◌<◌, Bool, true, false, List, [], ◌∷◌, length, refl, sym, ap, ◌∙◌, subst, arith}
 use Rattle.std.specs.Prelude.{All, Ok, Option, None, Result, Some, slice_get}
 use Rattle.std.proofs.lemmas.Grind.{common_steps}
 use Rattle.c6x_spec.specs.Memory.{Memory}
@@ -17,16 +17,15 @@ use Rattle.c6x_bind.specs.Needs.{needs_of}
 use Rattle.c6x_bind.proofs.NeedsKnown.{length_needs, needs_known}
 use Rattle.c6x_bind.specs.declared.bound_process.BoundProcess.{BoundProcess}
 use Rattle.c6x_bind.specs.declared.target.Target.{Target}
-use Rattle.c6x_seats.specs.Places.{ArePlaced}
 use Rattle.c6x_seats.specs.Rooms.{data_rooms, room_or, seat_places, seat_rooms, stack_room, text_places, text_rooms}
 use Rattle.c6x_seats.specs.declared.placement.Placement.{Placement}
 use Rattle.c6x_seats.specs.declared.seat.Seat.{Seat}
-use Rattle.c6x_seats.proofs.Orders.{Fit, Split, fit_append, fit_order, placed_last, placed_split}
+use Rattle.c6x_seats.proofs.Orders.{Fit, fit_append, fit_order, placed_last}
 use Rattle.c6x_fill.specs.Values.{slot_word, target_address}
 use Rattle.c6x_fill.proofs.Ranges.{length_filled}
 use Rattle.c6x_place.specs.Plans.{AreSeated, AreWanted, IsKnown, IsPlacement, bound_plans, plan_places, plan_rooms, seats_places, seats_rooms, used_from}
 use Rattle.c6x_place.proofs.Walks.{length_used}
-use Rattle.c6x_load_plan.specs.Loaded.{AreAllSeated, AreReady, AreStacked, IsSeated, plan_parts, range_bytes, range_parts, seat_parts, seat_ranges, seats_parts, stack_part, text_parts}
+use Rattle.c6x_load_plan.specs.Loaded.{AreAllSeated, AreReady, IsSeated, plan_parts, range_bytes, range_parts, seat_parts, seat_ranges, seats_parts, stack_part, text_parts}
 use Rattle.c6x_load_plan.proofs.Walks.{image_length, length_zeros}
 
 same_module : (a b : Module) → Some a ≡ Some b → a ≡ b
@@ -64,19 +63,6 @@ wanted_length (true ∷ used) (Some at ∷ texts) wanted = ap suc (wanted_length
 wanted_length (true ∷ used) (None ∷ texts) wanted = absurd wanted
 wanted_length (false ∷ used) (Some at ∷ texts) wanted = absurd wanted
 wanted_length (false ∷ used) (None ∷ texts) wanted = ap suc (wanted_length used texts wanted)
-
-text_lengths : (modules : List Module) (used : List Bool) (texts : List (Option ℕ)) → length modules ≡ length used → AreWanted used texts → length (text_rooms modules used) ≡ length (text_places texts)
-text_lengths [] [] [] lengths wanted = refl
-text_lengths [] [] (t ∷ texts) lengths wanted = absurd wanted
-text_lengths [] (u ∷ used) texts lengths wanted = absurd (omega arith)
-text_lengths (m ∷ modules) [] texts lengths wanted = absurd (omega arith)
-text_lengths (m ∷ modules) (true ∷ used) [] lengths wanted = absurd wanted
-text_lengths (m ∷ modules) (false ∷ used) [] lengths wanted = absurd wanted
-text_lengths (m ∷ modules) (true ∷ used) (None ∷ texts) lengths wanted = absurd wanted
-text_lengths (m ∷ modules) (false ∷ used) (Some at ∷ texts) lengths wanted = absurd wanted
-text_lengths (m ∷ modules) (false ∷ used) (None ∷ texts) lengths wanted = text_lengths modules used texts (omega arith) wanted
-text_lengths (m ∷ modules) (true ∷ used) (Some at ∷ texts) lengths wanted =
-    ap suc (text_lengths modules used texts (omega arith) wanted)
 
 -- the data ranges of a process
 image_size : (big : Bool) (o : Option Module) (word : ℕ → ℕ) (address : Target → ℕ) (row : List Target) → ((m : Module) → o ≡ Some m → IsValid m) → length (range_bytes big o word address row) ≡ (room_or o).size
@@ -156,34 +142,12 @@ all_seated modules (p ∷ plans) [] known seated = absurd seated
 all_seated modules (p ∷ plans) (s ∷ seats) known seated =
     (process_seated modules p.module s (known 0 p (omega arith)) seated.0, all_seated modules plans seats (λ i d h. known (suc i) d (omega arith)) seated.1)
 
--- the stacks end in the memory
-same_rooms : (modules : List Module) (list bases : List ℕ) → length bases ≡ length list → length (data_rooms modules list) ≡ length bases
-same_rooms modules [] [] same = refl
-same_rooms modules [] (b ∷ bases) same = absurd (omega arith)
-same_rooms modules (k ∷ list) [] same = absurd (omega arith)
-same_rooms modules (k ∷ list) (b ∷ bases) same = ap suc (same_rooms modules list bases (omega arith))
-
-length_one : {A B : Type 0} (xs : List A) (ys : List B) (x : A) (y : B) → length xs ≡ length ys → length (xs ++ x ∷ []) ≡ length (ys ++ y ∷ [])
-length_one xs ys x y same = grind (arith, common_steps)
-
-pub stacked : (modules : List Module) (plans : List ProcessPlan) (bounds : List BoundProcess) (seats : List Seat) (cursor end last : ℕ) → length plans ≡ length bounds → end < 2 ^ 32 → AreSeated bounds seats → ArePlaced cursor end (seats_rooms modules plans bounds) (seats_places seats) last → AreStacked plans seats
-stacked modules [] bounds seats cursor end last lengths below seated placed = tt
-stacked modules (p ∷ plans) [] seats cursor end last lengths below seated placed = absurd (omega arith)
-stacked modules (p ∷ plans) (b ∷ bounds) [] cursor end last lengths below seated placed = tt
-stacked modules (p ∷ plans) (b ∷ bounds) (s ∷ seats) cursor end last lengths below seated placed =
-    let each = same_rooms modules b.modules s.bases seated.0 in
-    let here : Split (seat_rooms modules b.modules p.stack) (seats_rooms modules plans bounds) (seat_places s) (seats_places seats) cursor end last = placed_split (seat_rooms modules b.modules p.stack) (seats_rooms modules plans bounds) (seat_places s) (seats_places seats) cursor end last (length_one (data_rooms modules b.modules) s.bases (stack_room p.stack) s.stack each) placed in
-    let stack = placed_split (data_rooms modules b.modules) (stack_room p.stack ∷ []) s.bases (s.stack ∷ []) cursor end here.amid each here.first in
-    let fits = stack.second.1 in
-    (omega arith, stacked modules plans bounds seats here.amid end last (omega arith) below seated.1 here.second)
-
 -- all together
 pub record Stands (big : Bool) (modules : List Module) (plans : List ProcessPlan) (bounds : List BoundProcess) (m : Memory) (placement : Placement) : Type 0 where
   pub texts : length modules ≡ length placement.texts
   pub each : length plans ≡ length bounds
   pub seats : length plans ≡ length placement.seats
   pub seated : AreAllSeated modules bounds placement.seats
-  pub stacked : AreStacked plans placement.seats
   pub on : AreOn m (plan_parts big modules plans bounds placement)
   pub apart : AreApart (plan_parts big modules plans bounds placement)
 
@@ -205,14 +169,12 @@ stands big modules plans bounds m placement same valid known below is =
     let sfit = seats_fit big modules placement.texts plans bounds placement.seats lengths is.seated all valid in
     let fit = fit_append (text_rooms modules used) (seats_rooms modules plans bounds) (text_places placement.texts) (seats_places placement.seats) (text_parts modules placement.texts) (seats_parts big modules placement.texts plans bounds placement.seats) tfit sfit in
     let order = fit_order (plan_rooms modules plans bounds) (plan_places placement) (plan_parts big modules plans bounds placement) m.base end is.last fit is.placed in
-    let parts = placed_split (text_rooms modules used) (seats_rooms modules plans bounds) (text_places placement.texts) (seats_places placement.seats) m.base end is.last (text_lengths modules used placement.texts (sym users) is.wanted) is.placed in
     let last = placed_last (plan_rooms modules plans bounds) (plan_places placement) m.base end is.last (omega arith) is.placed in
     record {
       texts = sym users ∙ wants;
       each = lengths;
       seats = lengths ∙ seats;
       seated = all;
-      stacked = stacked modules plans bounds placement.seats parts.amid end is.last lengths below is.seated parts.second;
       on = all_on (plan_parts big modules plans bounds placement) m m.base is.last (omega arith) last order;
       apart = all_apart (plan_parts big modules plans bounds placement) m.base is.last order;
     }

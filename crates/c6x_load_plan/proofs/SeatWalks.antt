@@ -1,5 +1,5 @@
 -- The seats of the processes, one after the other.
-use Rattle.std.proofs.Common.{◌≡◌, ℕ, ◌+◌, ◌^◌, ◌<◌, Bool, List, ◌∷◌, ◌++◌, length, drop, get_or, sym, ap, ◌∙◌, subst}
+use Rattle.std.proofs.Common.{◌≡◌, ℕ, ◌+◌, ◌<◌, Bool, List, ◌∷◌, ◌++◌, length, drop, get_or, sym, ap, ◌∙◌, subst}
 use Rattle.std.specs.Prelude.{Option}
 use Rattle.std.proofs.lemmas.List.{drop_more}
 use Rattle.c6x_spec.specs.Memory.{Memory}
@@ -9,15 +9,7 @@ use Rattle.c6x_module.specs.declared.module.Module.{Module}
 use Rattle.c6x_plan.specs.declared.process_plan.ProcessPlan.{ProcessPlan}
 use Rattle.c6x_bind.specs.declared.bound_process.BoundProcess.{BoundProcess}
 use Rattle.c6x_seats.specs.declared.seat.Seat.{Seat}
-use Rattle.c6x_load_plan.specs.Loaded.{AreAllSeated, AreStacked, IsSeated, seat_parts, seats_parts, start_of, starts_of}
-
-pub starts_more : (modules : List Module) (texts : List (Option ℕ)) (plans : List ProcessPlan) (seats : List Seat) (i : ℕ) (d : ProcessPlan) (e : Seat) → i < length plans → i < length seats → starts_of modules texts (drop i plans) (drop i seats) ≡ (start_of modules (get_or plans i d) texts (get_or seats i e) ∷ starts_of modules texts (drop (i + 1) plans) (drop (i + 1) seats))
-starts_more modules texts plans seats i d e below within =
-    ap (λ (xs : List ProcessPlan). starts_of modules texts xs (drop i seats)) (drop_more plans i d below)
-    ∙ ap (λ (ys : List Seat). starts_of modules texts (get_or plans i d ∷ drop (i + 1) plans) ys) (drop_more seats i e within)
-
-pub stacked_more : (plans : List ProcessPlan) (seats : List Seat) (i : ℕ) (d : ProcessPlan) (e : Seat) → i < length plans → i < length seats → AreStacked (drop i plans) (drop i seats) → ((get_or seats i e).stack + (get_or plans i d).stack < 2 ^ 32) × AreStacked (drop (i + 1) plans) (drop (i + 1) seats)
-stacked_more plans seats i d e below within all = rw (drop_more plans i d below, drop_more seats i e within) at all
+use Rattle.c6x_load_plan.specs.Loaded.{AreAllSeated, IsSeated, seat_parts, seats_parts}
 
 pub seated_more : (modules : List Module) (bounds : List BoundProcess) (seats : List Seat) (i : ℕ) (d : BoundProcess) (e : Seat) → i < length bounds → i < length seats → AreAllSeated modules (drop i bounds) (drop i seats) → IsSeated modules (get_or bounds i d) (get_or seats i e) × AreAllSeated modules (drop (i + 1) bounds) (drop (i + 1) seats)
 seated_more modules bounds seats i d e below within all = rw (drop_more bounds i d below, drop_more seats i e within) at all

@@ -1,5 +1,5 @@
 -- What the memory holds when the processes of a plan start.
-use Rattle.std.specs.Prelude.{◌≡◌, ℕ, ◌+◌, ◌-◌, ◌^◌, ◌<◌, ◌≤◌, Bool, List, [], ◌∷◌, ◌++◌, length, replicate, slice_get, slice_index, Option, None, Some}
+use Rattle.std.specs.Prelude.{◌≡◌, ℕ, ◌+◌, ◌-◌, ◌<◌, Bool, List, [], ◌∷◌, ◌++◌, length, replicate, slice_get, slice_index, Option, None, Some}
 use Rattle.c6x_spec.specs.Parts.{Part}
 use Rattle.c6x_machine.specs.declared.start.Start.{Start}
 use Rattle.c6x_module.specs.declared.module.Module.{Module}
@@ -77,22 +77,6 @@ start_of modules plan texts seat = record {
   arg = plan.arg;
   limit = plan.limit;
 }
-
-abbrev pub starts_of : List Module → List (Option ℕ) → List ProcessPlan → List Seat → List Start
-starts_of modules texts [] seats = []
-starts_of modules texts (plan ∷ plans) [] = []
-starts_of modules texts (plan ∷ plans) (seat ∷ seats) =
-    start_of modules plan texts seat ∷ starts_of modules texts plans seats
-
--- A stack has a double word at least.
-abbrev pub HasStack : ProcessPlan → Type 0
-HasStack plan = 8 ≤ plan.stack
-
--- The stacks end below 2^32.
-abbrev pub AreStacked : List ProcessPlan → List Seat → Type 0
-AreStacked [] seats = Unit {0}
-AreStacked (plan ∷ plans) [] = Unit {0}
-AreStacked (plan ∷ plans) (seat ∷ seats) = (seat.stack + plan.stack < 2 ^ 32) × AreStacked plans seats
 
 -- A member of a search list is a module, and has a target for each of its fields.
 pub record IsReady (modules : List Module) (number : ℕ) (targets : List Target) : Type 0 where

@@ -1,74 +1,39 @@
-ghost use Rattle.std.specs.Prelude.{◌≡◌, ◌+◌, ◌++◌, All, IfOk, OnErr, OnOk, false, length};
+ghost use Rattle.std.specs.Prelude.{◌≡◌, ◌+◌, ◌++◌, All, false, length};
 ghost use Rattle.c6x_spec.specs.Memory.{CanStart};
 ghost use Rattle.c6x_spec.specs.Parts.{AreOn, HoldsParts, filled_with};
 ghost use Rattle.c6x_place.specs.Plans.{IsKnown, IsPlacement, bound_plans};
-ghost use Rattle.c6x_load_plan.specs.Loaded.{AreAllSeated, AreStacked, HasStack, plan_parts, seats_parts, starts_of, text_parts};
+ghost use Rattle.c6x_load_plan.specs.Loaded.{AreAllSeated, plan_parts, seats_parts, text_parts};
 ghost use Rattle.c6x_load_plan.specs.ReadBack.{AreSeatsReadBack};
 
-use crate::loaded::Loaded;
 use crate::seats::fill_seat;
-use crate::starts::start_of;
 use crate::texts::load_texts;
-use c6x_base::Row;
 use c6x_bind::{Bound, BoundProcess};
 use c6x_board::Board;
-use c6x_machine::Start;
 use c6x_modules::Modules;
 use c6x_plan::ProcessPlan;
 use c6x_seats::{Placement, Seat};
-use std::alloc::{AllocError, Global};
 
-/// Writes the start bytes of all processes of a plan, and gives what each of them starts with. Every other byte of the
-/// memory is as before, which `start` says part by part. The memory for the answer is reserved first: after `AllocError`
-/// the board is as it was.
-pub fn load(
-    alloc: Global,
+/// Writes the start bytes of all processes of a plan. Every other byte of the memory is as before, which `start` says
+/// part by part.
+pub fn load_parts(
     modules: &Modules,
     processes: &[ProcessPlan],
     bound: &Bound,
     placement: &Placement,
     board: &mut Board,
-) -> Result<Loaded, AllocError>
+)
     requires known { All (IsKnown modules.now) processes.now }
-    requires stacks { All HasStack processes.now }
     requires bound { bound.now.processes ≡ bound_plans modules.now processes.now }
     requires placed { IsPlacement modules.now processes.now bound.now.processes board.old.base (board.old.base + length board.old.bytes) placement.now }
-    ensures after { OnOk result (board.new ≡ filled_with (plan_parts false modules.now processes.now bound.now.processes placement.now) board.old) }
-    ensures start { OnOk result (HoldsParts (plan_parts false modules.now processes.now bound.now.processes placement.now) board.old board.new) }
-    ensures read_back { OnOk result (AreSeatsReadBack board.new modules.now placement.now.texts bound.now.processes placement.now.seats) }
-    ensures err { OnErr result (board.new ≡ board.old) }
-    ensures starts { IfOk result (λ loaded. loaded.starts ≡ starts_of modules.now placement.now.texts processes.now placement.now.seats) }
+    ensures after { board.new ≡ filled_with (plan_parts false modules.now processes.now bound.now.processes placement.now) board.old }
+    ensures start { HoldsParts (plan_parts false modules.now processes.now bound.now.processes placement.now) board.old board.new }
+    ensures read_back { AreSeatsReadBack board.new modules.now placement.now.texts bound.now.processes placement.now.seats }
 {
     let _ = (board.len(), modules.len());
     let texts = placement.texts.as_slice();
     let seats = placement.seats.as_slice();
     let bounds = bound.processes.as_slice();
-    let starts = starts_of(alloc, modules, processes, texts, seats)?;
     load_all(modules, processes, bounds, texts, seats, board);
-    Ok(Loaded {
-        starts: Row::of(starts),
-    })
-}
-
-/// What each process starts with.
-#[tactic(auto, using(crate::proofs::SeatWalks::starts_more, crate::proofs::SeatWalks::stacked_more))]
-fn starts_of(
-    alloc: Global,
-    modules: &Modules,
-    processes: &[ProcessPlan],
-    texts: &[Option<u32>],
-    seats: &[Seat],
-) -> Result<Vec<Start>, AllocError>
-    requires same { length processes.now ≡ length seats.now }
-    requires stacks { All HasStack processes.now }
-    requires stacked { AreStacked processes.now seats.now }
-    ensures { IfOk result (λ starts. starts.items ≡ starts_of modules.now texts.now processes.now seats.now) }
-{
-    let mut starts = Vec::new(alloc);
-    for (process, plan) in processes.iter().enumerate() {
-        starts.push(start_of(modules, plan, texts, &seats[process]))?;
-    }
-    Ok(starts)
 }
 
 /// Writes the texts and the seats.

@@ -3,25 +3,12 @@ use Rattle.std.specs.Prelude.{Option}
 use Rattle.c6x_spec.specs.Parts.{AreOn}
 use Rattle.c6x_bind.specs.declared.bound_process.BoundProcess.{BoundProcess}
 use Rattle.c6x_seats.specs.declared.seat.Seat.{Seat}
-use Rattle.c6x_load_plan.specs.Loaded.{AreAllSeated, AreStacked, plan_parts, seats_parts, text_parts}
+use Rattle.c6x_load_plan.specs.Loaded.{AreAllSeated, plan_parts, seats_parts, text_parts}
 use Rattle.c6x_load_plan.proofs.Placed.{stands}
 use Rattle.c6x_load_plan.proofs.Walks.{held_after}
 use Rattle.c6x_load_plan.proofs.Backs.{holds_back, seats_back}
 use Rattle.c6x_spec.proofs.PartsHeld.{on_back}
-use Rattle.c6x_load_plan.proofs.loading.load.Goals as goal
-
-pub starts_of-requires-clause-same : goal.starts_of-requires-clause-same
-starts_of-requires-clause-same c =
-    let gates = c.len.ensures.whole.below_gates in
-    let st = stands false c.args.modules.now c.args.processes.now c.args.bound.now.processes c.args.board.now c.args.placement.now c.requires.bound c.len-2.ensures.kept.valid c.requires.known (omega arith) c.requires.placed in
-    st.seats ∙ ap (λ (l : List Seat). length l) (sym c.as_slice-seats.ensures)
-
-pub starts_of-requires-clause-stacked : goal.starts_of-requires-clause-stacked
-starts_of-requires-clause-stacked c =
-    let gates = c.len.ensures.whole.below_gates in
-    let st = stands false c.args.modules.now c.args.processes.now c.args.bound.now.processes c.args.board.now c.args.placement.now c.requires.bound c.len-2.ensures.kept.valid c.requires.known (omega arith) c.requires.placed in
-    let P : List Seat → Type 0 = λ (l : List Seat). AreStacked c.args.processes.now l in
-    subst P (sym c.as_slice-seats.ensures) st.stacked
+use Rattle.c6x_load_plan.proofs.loading.load_parts.Goals as goal
 
 pub load_all-requires-clause-texts : goal.load_all-requires-clause-texts
 load_all-requires-clause-texts c =

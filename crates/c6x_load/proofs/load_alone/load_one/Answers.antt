@@ -2,7 +2,7 @@ use Rattle.std.proofs.Common.{arith}
 use Rattle.c6x_load.proofs.Sizes.{length_filled, length_data}
 use Rattle.c6x_load.proofs.Starts.{holds_start, loaded_by}
 use Rattle.c6x_load.proofs.Writes.{on_written}
-use Rattle.c6x_load.proofs.load.load_one.Goals as goal
+use Rattle.c6x_load.proofs.load_alone.load_one.Goals as goal
 
 -- the data range and the stack still lie on the memory once the ranges before them are written
 pub fill_data-requires-clause-room : goal.fill_data-requires-clause-room
