@@ -7,6 +7,8 @@
 #[cfg(test)]
 mod assembling;
 #[cfg(test)]
+mod loads;
+#[cfg(test)]
 mod long_texts;
 #[cfg(test)]
 mod objects;
