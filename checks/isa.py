@@ -1,12 +1,12 @@
 #!/usr/bin/env python3
-"""Compares decode, encode, effects, write_of_load and split with a reference model.
+"""Compares decode, encode, effects, write_of_load, show and split with a reference model.
 
 Words are random, near-valid, or drawn for a unit; chains are mostly of words whose units and sides are free, so
 that long packets and each rule of a packet are met often.
 
 Usage: checks/isa.py MODEL [COUNT [SEED]]
 
-MODEL is the folder of the model's `isa.py`, which has `decode`, `encode`, `effects` and `split`. COUNT is
+MODEL is the folder of the model's `isa.py`, which has `decode`, `encode`, `effects`, `show` and `split`. COUNT is
 how many words to try, at least 200,000 if it is not given. The program `c6x_isa_probe` has to be built first:
 `rt run` in crates/c6x_isa_probe.
 """
@@ -218,6 +218,9 @@ def main():
         done = model.effects(instr, at, (at + 4) & MASK, drawn(seed))
         loaded = show_write(write_of_load(model, done.access, seed))
         expected.append(f"{model.encode(instr):08x} {show_instr(instr)} {show_effects(done)} {loaded}")
+    for word in spelled:
+        lines.append(f"show {word:x}")
+        expected.append(model.show(model.decode(word)))
     units, met = by_unit(model, spelled), Counter()
     for _ in range(count // 8):
         words = chain(rng, units)

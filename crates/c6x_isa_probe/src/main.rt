@@ -1,9 +1,9 @@
 //! Answers of the instruction table, for comparison with another table.
 //!
-//! Each line of input is `word WORD AT SEED`, `split` and one to eight words, or `count NUMBER SEED`,
+//! Each line of input is `word WORD AT SEED`, `show WORD`, `split` and one to eight words, or `count NUMBER SEED`,
 //! in hexadecimal. For a word it prints its word again, the instruction, what it does at the
 //! address AT with registers drawn from the seed, and what a load writes then of the seed's low
-//! bytes; for a chain of words, its packet's length or the rule it breaks; and for a count, how many
+//! bytes; for a word to show, the line of its instruction; for a chain of words, its packet's length or the rule it breaks; and for a count, how many
 //! of so many drawn words spell an instruction.
 
 #![tactic(auto)]
@@ -11,6 +11,7 @@
 ghost use Rattle.c6x_instr.specs.Rows.{FitsAccess};
 
 use c6x_base::Side;
+use c6x_dis::show;
 use c6x_isa::{MemOp, Regs, Write as RegisterWrite, decode, effects, encode, write_of_load};
 use c6x_packet::{is_chain, split};
 use std::alloc::Global;
@@ -35,6 +36,7 @@ fn answer<W: Write>(alloc: Global, out: &mut W, line: &str) -> io::Result<()> {
     }
     match (kind, numbers.as_slice()) {
         ("word", [word, at, seed]) => answer_word(out, *word, *at, *seed),
+        ("show", [word]) => answer_shown(out, *word),
         ("split", chain) => answer_chain(out, chain),
         ("count", [number, seed]) => {
             let spelled = spelled_words(*number, *seed);
@@ -55,6 +57,14 @@ fn answer_word<W: Write>(out: &mut W, word: u32, at: u32, seed: u32) -> io::Resu
         }
         None => writeln!(out, "none"),
     }
+}
+
+/// The line of the instruction of a word; an empty one where it spells none.
+fn answer_shown<W: Write>(out: &mut W, word: u32) -> io::Result<()> {
+    if let Some(instr) = decode(word) {
+        out.write_all(show(&instr).as_bytes())?;
+    }
+    out.write_all(b"\n")
 }
 
 /// What the access writes to a register, where it read the low bytes of a number.

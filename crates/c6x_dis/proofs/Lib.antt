@@ -1,0 +1,5 @@
+mod Bytes
+mod Numbers
+mod Valid
+mod Reading
+mod Words
