@@ -10,12 +10,10 @@ use Rattle.c6x_reloc.specs.declared.reloc_kind.RelocKind.{RelocKind}
 abbrev pub moved_by : ℕ → ℕ → ℕ
 moved_by d at = (at + d) % 2 ^ 32
 
--- The inputs are words.
+-- The addresses from which values count are words.
 pub record AreWords (i : Inputs) : Type 0 where
-  pub s : i.s < 2 ^ 32
   pub p : i.p < 2 ^ 32
   pub b : i.b < 2 ^ 32
-  pub g : i.g < 2 ^ 32
 
 -- The same inputs at other addresses.
 abbrev pub at_addresses : Inputs → ℕ → ℕ → ℕ → ℕ → Inputs
