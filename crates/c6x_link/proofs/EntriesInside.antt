@@ -48,7 +48,7 @@ sized_by : (b : Bool) (len size : ℕ) (own : Section) → has_bytes own.kind �
 sized_by true len size own is l s same some = record { filled = is; size = sym l ∙ same ∙ s }
 sized_by false len size own is l s same some = absurd (omega (arith, same, some))
 
-sized_has : (own : Section) → IsSized own → 1 ≤ length own.bytes → HasBytes own
+pub sized_has : (own : Section) → IsSized own → 1 ≤ length own.bytes → HasBytes own
 unfolding section_size section_head_at
 sized_has own sized some = sized_by (has_bytes own.kind) (length own.bytes) own.size own refl refl refl sized.size some
 
@@ -127,7 +127,7 @@ own_slot [] i below own is = absurd (omega (arith, below))
 own_slot (x ∷ xs) zero below own is = ap Some (is x)
 own_slot (x ∷ xs) (suc i) below own is = own_slot xs i (omega (arith, below)) own is
 
-region_own : (w : Working) (object section : ℕ) → object < length w.objects → (s : OwnSection w object section) → section_region w.objects object section ≡ zone_region (zone_of s.file.names s.file.sections s.own)
+pub region_own : (w : Working) (object section : ℕ) → object < length w.objects → (s : OwnSection w object section) → section_region w.objects object section ≡ zone_region (zone_of s.file.names s.file.sections s.own)
 unfolding section_region
 region_own w object section below s =
     let file : get_or w.objects object no_file ≡ s.file = s.file_is no_file in
@@ -138,7 +138,7 @@ region_own w object section below s =
     ∙ ap (region_of_section s.file.names s.file.sections) (own_slot s.file.sections section s.inside s.own s.own_is)
     ∙ region_by s.file.names s.file.sections s.own (is_allocated s.own) refl s.allocated
 
-room_own : (w : Working) (object section : ℕ) → object < length w.objects → (s : OwnSection w object section) → text_of (sections_at w.objects object) section ≡ s.own.bytes
+pub room_own : (w : Working) (object section : ℕ) → object < length w.objects → (s : OwnSection w object section) → text_of (sections_at w.objects object) section ≡ s.own.bytes
 unfolding text_of
 room_own w object section below s =
     let file : get_or w.objects object no_file ≡ s.file = s.file_is no_file in
@@ -157,7 +157,7 @@ pub record IsPlaced (w : Working) (text range : ℕ) : Type 0 where
   pub small_range : file_end (laying_in w) < 2 ^ 32
   pub objects : All (IsObject false) w.objects
 
-part_is : (w : Working) (object section : ℕ) → object < length w.objects → (s : OwnSection w object section) → OwnPart w.objects object section (part_of object s.file section s.own)
+pub part_is : (w : Working) (object section : ℕ) → object < length w.objects → (s : OwnSection w object section) → OwnPart w.objects object section (part_of object s.file section s.own)
 part_is w object section below s = own_part w.objects object section s.file s.own below s.file_is s.inside s.own_is s.allocated
 
 lies_by : (w : Working) (text range : ℕ) (object section : ℕ) (zone : Zone) → IsPlaced w text range → object < length w.objects → (s : OwnSection w object section) → zone_of s.file.names s.file.sections s.own ≡ zone → HasBytes s.own → (address_in (places_of (laying_in w)) object section - (if is_text (zone_region zone) then TEXT_START else table_at (laying_in w))) + length s.own.bytes ≤ (if is_text (zone_region zone) then text else range)
@@ -175,7 +175,7 @@ lies_by w text range object section Far placed below s is bytes =
     (far_in_data (laying_in w) object section (part_of object s.file section s.own) (part_is w object section below s) is bytes.filled)
     (omega arith) bytes.size placed.range_is
 
-own_sized : (w : Working) (object section : ℕ) → object < length w.objects → All (IsObject false) w.objects → (s : OwnSection w object section) → IsSized s.own
+pub own_sized : (w : Working) (object section : ℕ) → object < length w.objects → All (IsObject false) w.objects → (s : OwnSection w object section) → IsSized s.own
 own_sized w object section below all s =
     let P : File → Type 0 = λ f. IsObject false f in
     let Q : Section → Type 0 = λ x. IsSized x in

@@ -74,7 +74,7 @@ numbered f n [] = refl
 numbered f n (x ∷ xs) = ap suc (numbered f (n + 1) xs)
 
 -- what the text holds is what the layout counts
-counts_same : (w : Working) → length (text_image w) ≡ code_end (laying_in w) - TEXT_START → length (word_relas w) + length (dynamic_relas (link_entries w)) ≡ filled_count w.objects w.bindings w.words → counts_in (parts_of w) ≡ counts_of (laying_in w)
+pub counts_same : (w : Working) → length (text_image w) ≡ code_end (laying_in w) - TEXT_START → length (word_relas w) + length (dynamic_relas (link_entries w)) ≡ filled_count w.objects w.bindings w.words → counts_in (parts_of w) ≡ counts_of (laying_in w)
 unfolding counts_in counts_of parts_of code_of stub_relas module_names
 counts_same w code relas =
     counts_are _ _ _ _ _ _ _ _ _ _ _ _

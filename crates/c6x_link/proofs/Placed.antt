@@ -25,7 +25,7 @@ use Rattle.c6x_link_targets.specs.Working.{Working, worked_out}
 use Rattle.c6x_objects.specs.Objects.{IsObject}
 use Rattle.c6x_link.proofs.EntriesInside.{IsPlaced, all_inside}
 
-places_are : (l : Laying) → (layout_of l).places ≡ places_of l
+pub places_are : (l : Laying) → (layout_of l).places ≡ places_of l
 unfolding layout_of
 places_are l = refl
 

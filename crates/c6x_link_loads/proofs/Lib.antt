@@ -1,0 +1,9 @@
+pub mod Aligned
+pub mod Laid
+pub mod Sizes
+pub mod Symbols
+pub mod Imports
+pub mod ForLoader
+pub mod Dynamics
+pub mod Loadable
+pub mod Written
