@@ -1,0 +1,9 @@
+pub mod Rules
+pub mod Kept
+pub mod Standing
+pub mod Fields
+pub mod Words
+pub mod Segments
+pub mod Targeted
+pub mod Filled
+pub mod ValueWords
