@@ -1,0 +1,3 @@
+pub mod NamesKept
+pub mod ObjectsRead
+pub mod LoadsRead
