@@ -7,22 +7,30 @@ PROGRAM is the built `c6x`. As many cycles in all are done by 1, 4 and 16 proces
 quantum 1, 100 and 65,535. The cost of a cycle is that of a run of many cycles less that of a run of one cycle a process;
 the cost of a turn is what a cycle costs more at quantum 1 than at the greatest.
 """
+import importlib.util
 import os
 import sys
 import tempfile
 
-sys.path.insert(0, os.path.dirname(os.path.abspath(__file__)))
-from run import BOARD, LOOPS, module, spent  # noqa: E402
-
 CYCLES = 4_000_000
 PROCESSES = (1, 4, 16)
 QUANTA = (1, 100, 65_535)
-LOOP = "one MVK a packet"
+
+
+def beside(name):
+    """A script of this folder, also where `checks` has one of that name."""
+    spec = importlib.util.spec_from_file_location(f"bench_{name}", os.path.join(os.path.dirname(os.path.abspath(__file__)), f"{name}.py"))
+    script = importlib.util.module_from_spec(spec)
+    spec.loader.exec_module(script)
+    return script
+
+
+cycles = beside("run")
 
 
 def plan(processes, quantum, limit):
     lines = ["c6x-plan 1", f"quantum {quantum}", "module app app.out"]
-    lines += [f"process {'p' if k == 0 else f'p{k}'} app limit {limit} stack 64 arg {BOARD}" for k in range(processes)]
+    lines += [f"process {'p' if k == 0 else f'p{k}'} app limit {limit} stack 64 arg {cycles.BOARD}" for k in range(processes)]
     return "\n".join(lines + [""])
 
 
@@ -34,7 +42,7 @@ def nanoseconds(program, folder, processes, quantum):
         name = f"{processes}-{quantum}-{limit}.plan"
         with open(os.path.join(folder, name), "w") as out:
             out.write(plan(processes, quantum, limit))
-        seconds[limit], lines[limit] = spent([program, "run", name], folder)
+        seconds[limit], lines[limit] = cycles.spent([program, "run", name], folder)
         if b"limit cycles %d" % limit not in lines[limit]:
             sys.exit(f"bench/turns.py: not that answer: {lines[limit]}")
     done = (limits[1] - limits[0]) * processes
@@ -48,7 +56,7 @@ def main():
     program = os.path.abspath(sys.argv[1])
     with tempfile.TemporaryDirectory() as folder:
         with open(os.path.join(folder, "app.out"), "wb") as out:
-            out.write(module(LOOPS[LOOP]))
+            out.write(cycles.module(cycles.moves()))
         cost = {}
         for processes in PROCESSES:
             for quantum in QUANTA:
