@@ -1,9 +1,10 @@
-//! The program `c6x`: it makes the real devices and does what its words ask for.
+//! The program `c6x`: it makes the real devices and the named policies, and does what its words ask for.
 #![tactic(auto)]
 
 use c6x_base::Name;
 use c6x_board::Board;
 use c6x_cli::command;
+use c6x_policy::{DrawnBySeed, LastFirst, Policy, RoundRobin};
 use c6x_ports::{DirShelf, ErrSink, OutSink, Sink};
 use std::alloc::AllocError;
 use std::env;
@@ -35,7 +36,13 @@ fn run(rt: &HostRuntime) -> Result<u8, AllocError> {
     let mut shelf = DirShelf::new(rt);
     let mut out = OutSink::new(rt);
     let mut err = ErrSink::new(rt);
-    Ok(command(alloc, words, &mut shelf, &mut out, &mut err, &mut board))
+    let round: Box<dyn Policy> = Box::new(alloc, RoundRobin::new())?;
+    let last: Box<dyn Policy> = Box::new(alloc, LastFirst::new())?;
+    let drawn: Box<dyn Policy> = Box::new(alloc, DrawnBySeed::new())?;
+    let mut policies = vec![in alloc; round, last, drawn]?;
+    Ok(command(
+        alloc, words, &mut shelf, &mut out, &mut err, &mut board, &mut policies,
+    ))
 }
 
 /// The words behind the program's name. A list with a word that is not UTF-8 has no reading, as the empty list has none.

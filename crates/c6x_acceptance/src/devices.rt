@@ -4,11 +4,15 @@ ghost use Rattle.c6x_spec.specs.Memory.{CanStart};
 use c6x_base::{Bytes, Name};
 use c6x_board::Board;
 use c6x_cli::command;
-use c6x_ports::{MemoryShelf, MemorySink, Stored};
+use c6x_policy::{DrawnBySeed, LastFirst, Policy, RoundRobin};
+use c6x_ports::{MemoryShelf, MemorySink, Shelf, Stored};
 use std::alloc::{AllocError, Global};
 
 /// The first address of each board.
 pub const BASE: u32 = 0x8000_0000;
+
+/// How many bytes an output has room for: those that a process may put, and lines besides.
+const OUTPUT_ROOM: u32 = 131_072;
 
 /// Devices in memory.
 #[derive(Drop)]
@@ -82,8 +86,8 @@ fn devices_over(
     board.copy_in(BASE, &vec![in alloc; 0xAA; len as usize]?);
     Ok(Devices {
         shelf,
-        out: MemorySink::new(alloc, 65_536, Vec::from_slice(alloc, failing_puts)?)?,
-        err: MemorySink::new(alloc, 65_536, Vec::new(alloc))?,
+        out: MemorySink::new(alloc, OUTPUT_ROOM, Vec::from_slice(alloc, failing_puts)?)?,
+        err: MemorySink::new(alloc, OUTPUT_ROOM, Vec::new(alloc))?,
         board,
     })
 }
@@ -98,7 +102,17 @@ fn stored(alloc: Global, name: &[u8], bytes: &[u8]) -> Result<Stored, AllocError
     })
 }
 
-/// Whether the command with these words, split at spaces, gives this status, and both outputs then have these texts.
+/// Words that are split at spaces.
+pub fn words_of(alloc: Global, text: &str) -> Result<Vec<Name>, AllocError> {
+    let mut words = Vec::new(alloc);
+    for word in text.split(' ') {
+        words.push(Name::from_bytes(alloc, word.as_bytes())?)?;
+    }
+    Ok(words)
+}
+
+/// Whether the command with these words, split at spaces, gives this status, and both outputs then have these texts. The
+/// three named policies are handed in.
 pub fn gives(
     alloc: Global,
     devices: &mut Devices,
@@ -107,11 +121,7 @@ pub fn gives(
     out: &str,
     err: &str,
 ) -> Result<bool, AllocError> {
-    let mut words = Vec::new(alloc);
-    for word in text.split(' ') {
-        words.push(Name::from_bytes(alloc, word.as_bytes())?)?;
-    }
-    Ok(gives_to_words(alloc, devices, words, status, out, err))
+    gives_to_words(alloc, devices, words_of(alloc, text)?, status, out, err)
 }
 
 /// The same of these words.
@@ -119,6 +129,23 @@ pub fn gives_to_words(
     alloc: Global,
     devices: &mut Devices,
     words: Vec<Name>,
+    status: u8,
+    out: &str,
+    err: &str,
+) -> Result<bool, AllocError> {
+    let round: Box<dyn Policy> = Box::new(alloc, RoundRobin::new())?;
+    let last: Box<dyn Policy> = Box::new(alloc, LastFirst::new())?;
+    let drawn: Box<dyn Policy> = Box::new(alloc, DrawnBySeed::new())?;
+    let mut policies = vec![in alloc; round, last, drawn]?;
+    Ok(gives_under(alloc, devices, words, &mut policies, status, out, err))
+}
+
+/// The same where these policies are handed in.
+pub fn gives_under(
+    alloc: Global,
+    devices: &mut Devices,
+    words: Vec<Name>,
+    policies: &mut Vec<Box<dyn Policy>>,
     status: u8,
     out: &str,
     err: &str,
@@ -130,6 +157,7 @@ pub fn gives_to_words(
         &mut devices.out,
         &mut devices.err,
         &mut devices.board,
+        policies,
     );
     given == status
         && devices.out.bytes() == out.as_bytes()
@@ -148,4 +176,23 @@ pub fn has_file(shelf: &MemoryShelf, name: &[u8], bytes: &[u8]) -> bool {
         Some(file) => file == bytes,
         None => false,
     }
+}
+
+/// An empty shelf, and a board of `len` bytes that are all 0xAA.
+pub fn plain_devices(alloc: Global, len: u32) -> Result<Devices, AllocError>
+    requires { CanStart BASE len }
+{
+    let shelf = MemoryShelf::new(Vec::new(alloc), Vec::new(alloc));
+    devices_over(alloc, shelf, &[], len)
+}
+
+/// Puts these bytes under this name, and tells whether they are there.
+pub fn stores(
+    alloc: Global,
+    devices: &mut Devices,
+    name: &str,
+    bytes: &[u8],
+) -> Result<bool, AllocError> {
+    let name = Name::from_bytes(alloc, name.as_bytes())?;
+    Ok(devices.shelf.store(alloc, &name, bytes).is_ok())
 }

@@ -15,4 +15,10 @@ mod linking;
 #[cfg(test)]
 mod map;
 #[cfg(test)]
+mod modules;
+#[cfg(test)]
+mod plans;
+#[cfg(test)]
+mod policies;
+#[cfg(test)]
 mod run;

@@ -42,13 +42,13 @@ fn one_process_is_mapped(rt: HostRuntime) -> Result<(), AllocError> {
     Ok(())
 }
 
-// A board of one byte less is not built yet, and stays as it was.
+// A board of one byte less has no room, and stays as it was.
 #[test]
 fn a_board_of_one_byte_less(rt: HostRuntime) -> Result<(), AllocError> {
     let alloc = rt.alloc();
     let image = m1(alloc)?;
     let mut d = filled_devices(alloc, ONE_PLAN.as_bytes(), &image, &[], &[], 191)?;
-    let line = "c6x: refused X1 NotBuilt one.plan 0\n";
+    let line = "c6x: refused L18 NoRoom one.plan 191\n";
     assert!(&rt; gives(alloc, &mut d, "map one.plan", 4, "", line)?);
     assert!(&rt; has_word(&d.board, BASE, 0xAAAA_AAAA));
     Ok(())
@@ -66,24 +66,26 @@ fn stops(
     gives(alloc, &mut d, words, status, "", line)
 }
 
-// Files that are no plain ones are not built yet.
+// Files that are no ELF files of this kind.
 #[test]
-fn what_is_not_built(rt: HostRuntime) -> Result<(), AllocError> {
+fn files_that_are_refused(rt: HostRuntime) -> Result<(), AllocError> {
     let alloc = rt.alloc();
-    let line = "c6x: refused X1 NotBuilt app.out 0\n";
+    let line = "c6x: refused E1 Short app.out 0\n";
     assert!(&rt; stops(alloc, b"", "map one.plan", 4, line)?);
+    let line = "c6x: refused E1 Short app.out 50\n";
     assert!(&rt; stops(alloc, &front_of_m1(alloc)?, "map one.plan", 4, line)?);
+    let line = "c6x: refused E4 Data app.out 5\n";
     assert!(&rt; stops(alloc, &damaged_m1(alloc)?, "map one.plan", 4, line)?);
     Ok(())
 }
 
-// So is a plan that is no plain one.
+// A plan of another version has no reading.
 #[test]
-fn a_plan_that_is_not_built(rt: HostRuntime) -> Result<(), AllocError> {
+fn a_plan_of_another_version(rt: HostRuntime) -> Result<(), AllocError> {
     let alloc = rt.alloc();
     let image = m1(alloc)?;
     let mut d = filled_devices(alloc, b"c6x-plan 2\n", &image, &[], &[], 192)?;
-    let line = "c6x: refused X1 NotBuilt one.plan 0\n";
+    let line = "c6x: refused N1 Syntax one.plan 1\n";
     assert!(&rt; gives(alloc, &mut d, "map one.plan", 4, "", line)?);
     Ok(())
 }
@@ -96,7 +98,7 @@ fn a_word_that_is_no_text(rt: HostRuntime) -> Result<(), AllocError> {
     let verb = Name::from_bytes(alloc, b"map")?;
     let word = Name::from_bytes(alloc, b"one\xff.plan")?;
     let words = vec![in alloc; verb, word]?;
-    assert!(&rt; gives_to_words(alloc, &mut d, words, 2, "", "c6x: usage\n"));
+    assert!(&rt; gives_to_words(alloc, &mut d, words, 2, "", "c6x: usage\n")?);
     Ok(())
 }
 

@@ -105,9 +105,9 @@ fn a_byte_is_put(rt: HostRuntime) -> Result<(), AllocError> {
     Ok(())
 }
 
-// Each fault with its address, and the first of two in their order.
+// Each fault with its address: of packets and their branches first.
 #[test]
-fn faults_end_a_process(rt: HostRuntime) -> Result<(), AllocError> {
+fn packets_end_a_process(rt: HostRuntime) -> Result<(), AllocError> {
     let alloc = rt.alloc();
     let rows = [
         (
@@ -137,6 +137,18 @@ fn faults_end_a_process(rt: HostRuntime) -> Result<(), AllocError> {
             0,
             "fault F4 BadPacket at 0x80000000 cycles 1",
         ),
+    ];
+    for (code, arg, end) in rows {
+        assert!(&rt; ends(alloc, code, 100, arg, end, "")?, "{end}");
+    }
+    Ok(())
+}
+
+// The faults of accesses and of writes.
+#[test]
+fn accesses_end_a_process(rt: HostRuntime) -> Result<(), AllocError> {
+    let alloc = rt.alloc();
+    let rows = [
         // a load at the gates
         (
             [0x040c02e6, 0x008ca362].as_slice(),
@@ -176,11 +188,30 @@ fn faults_end_a_process(rt: HostRuntime) -> Result<(), AllocError> {
     Ok(())
 }
 
+// A process that puts without end fills its output, and is at fault at the next byte.
+#[test]
+fn a_full_output_ends_a_process(rt: HostRuntime) -> Result<(), AllocError> {
+    let alloc = rt.alloc();
+    let mut output = String::new(alloc);
+    for _ in 0..1024 {
+        output.push_str("HHHHHHHHHHHHHHHHHHHHHHHHHHHHHHHHHHHHHHHHHHHHHHHHHHHHHHHHHHHHHHHH")?;
+    }
+    let code = [0x01ff902a, 0x008ca362];
+    let end = "fault F10 OutputFull at 0xffffff20 cycles 65544";
+    assert!(&rt; ends(alloc, &code, 100_000, 72, end, &output)?);
+    Ok(())
+}
+
 // Where a packet breaks two rules, the first in their order ends the process, wherever its word stands.
 #[test]
 fn the_first_of_two_faults(rt: HostRuntime) -> Result<(), AllocError> {
     let alloc = rt.alloc();
     let rows = [
+        (
+            [0x00101362, 0x00010000, 0xe0000000].as_slice(),
+            0x8000_0009,
+            "fault F2 Fetch at 0x80000009 cycles 7",
+        ),
         (
             [0x02900059, 0x03100059, 0xe0000000].as_slice(),
             0,

@@ -1,4 +1,3 @@
-pub mod Items
-pub mod Text
 pub mod Misread
 pub mod OutcomeKinds
+pub mod Served

@@ -1,25 +1,28 @@
-use Rattle.std.proofs.Common.{◌≡◌, ℕ, ◌⊎◌, Bool, true, false, List, [], refl, sym, subst, inl, inr, arith}
+use Rattle.std.proofs.Common.{◌≡◌, ℕ, Bool, true, false, List, [], refl, sym, subst, inl, inr, arith}
 use Rattle.std.specs.Prelude.{Option, None, Some}
 use Rattle.c6x_spec.specs.Files.{Files}
 use Rattle.c6x_spec.specs.Memory.{Memory}
 use Rattle.c6x_ports.specs.Shelf.{Shelved}
 use Rattle.c6x_ports.specs.Sink.{Taken}
 use Rattle.c6x_cli_steps.specs.declared.cause.Cause.TheVariants.{Usage}
+use Rattle.c6x_policy.specs.Chooser.{Chooser}
+use Rattle.c6x_policy.specs.declared.kind.Kind.{Kind}
+use Rattle.c6x_cli_steps.specs.Policies.{KeepsPolicies}
 use Rattle.c6x_cli_steps.specs.declared.prepare_error.PrepareError.TheVariants.{Because}
 use Rattle.c6x_cli_steps.specs.Exits.{Exits, IsStopped, Reports}
 use Rattle.c6x_cli_steps.specs.Lines.{usage_line}
 use Rattle.c6x_cli_steps.specs.Statuses.{Keeps, Performs, Shows}
 use Rattle.c6x_cli_steps.specs.Stores.{KeepsWriteFaults}
 use Rattle.c6x_cli_steps.specs.World.{World, world}
-use Rattle.c6x_cli_steps.proofs.Performs.{shows_stopped, performed_reading, keeps_stopped, leaves_nothing}
-use Rattle.c6x_cli.specs.declared.request.Request.{Request}
+use Rattle.c6x_cli_steps.proofs.Performs.{shows_stopped, performed_reading, policies_stopped, keeps_stopped, leaves_nothing}
+use Rattle.c6x_cli_words.specs.declared.request.Request.{Request}
 use Rattle.c6x_cli.specs.Meaning.{steps_of}
-use Rattle.c6x_cli.specs.Requests.{EndsUsage}
+use Rattle.c6x_cli.specs.Serving.{EndsUsage}
 
 -- where the words have no reading, nothing but the line was put
-pub stopped_misread : (status : ℕ) (shelf : Shelved) (out err new_err : Taken) (board : Memory) → Reports usage_line 2 status err new_err → IsStopped usage_line 2 [] status (world shelf out err board) (world shelf out new_err board)
-stopped_misread status shelf out err new_err board reports = record {
-  leaves = leaves_nothing (world shelf out err board) (world shelf out new_err board) refl refl refl;
+pub stopped_misread : (status : ℕ) (shelf : Shelved) (out err new_err : Taken) (board : Memory) (policies : List Chooser) → Reports usage_line 2 status err new_err → IsStopped usage_line 2 [] status (world shelf out err board policies) (world shelf out new_err board policies)
+stopped_misread status shelf out err new_err board policies reports = record {
+  leaves = leaves_nothing (world shelf out err board policies) (world shelf out new_err board policies) refl refl refl refl;
   reports = reports;
 }
 
@@ -45,14 +48,18 @@ faults_same true shelf = omega arith
 faults_same false shelf = refl
 
 -- and keep all
-pub keeps_misread : (storing : Bool) (shelf : Shelved) (out err new_err : Taken) (board : Memory) → Keeps storing (world shelf out err board) (world shelf out new_err board)
-keeps_misread storing shelf out err new_err board =
-    keeps_stopped storing (world shelf out err board) (world shelf out new_err board) (faults_same storing shelf)
-    (leaves_nothing (world shelf out err board) (world shelf out new_err board) refl refl refl)
+pub keeps_misread : (storing : Bool) (shelf : Shelved) (out err new_err : Taken) (board : Memory) (policies : List Chooser) → Keeps storing (world shelf out err board policies) (world shelf out new_err board policies)
+keeps_misread storing shelf out err new_err board policies =
+    keeps_stopped storing (world shelf out err board policies) (world shelf out new_err board policies) (faults_same storing shelf)
+    (leaves_nothing (world shelf out err board policies) (world shelf out new_err board policies) refl refl refl refl)
 
 -- words with a reading do not end with 2
-pub usage_performed : (read : Option Request) (request : Request) (board : Memory) (storing : Bool) (status : ℕ) (before after : World) → read ≡ Some request → Performs (λ told. steps_of read told board) storing status before after → EndsUsage status read
-usage_performed read request board storing status before after is performs = record {
-  only = λ two. absurd (performed_reading (λ told. steps_of read told board) storing status before after performs two);
+pub usage_performed : (read : Option Request) (request : Request) (board : Memory) (storing : Bool) (asking : Option Kind) (status : ℕ) (before after : World) → read ≡ Some request → Performs (λ told. steps_of read told board) storing asking status before after → EndsUsage status read
+usage_performed read request board storing asking status before after is performs = record {
+  only = λ two. absurd (performed_reading (λ told. steps_of read told board) storing asking status before after performs two);
   whenever = λ none. absurd (cc);
 }
+
+-- and of the policies
+pub policies_misread : (status : ℕ) (asking : Option Kind) (before after : World) → IsStopped usage_line 2 [] status before after → KeepsPolicies status asking before.policies after.policies
+policies_misread status asking before after stopped = policies_stopped usage_line 2 status asking before after (λ is. omega (arith, is)) stopped

@@ -1,19 +1,23 @@
+ghost use Rattle.std.specs.Prelude.{List, length, map};
+ghost use Rattle.c6x_policy.specs.Chooser.{Chooser};
 ghost use Rattle.c6x_ports.specs.Shelf.{Shelved};
 ghost use Rattle.c6x_ports.specs.Sink.{Taken};
-ghost use Rattle.c6x_cli.specs.Meaning.{CanCommit, is_store, outcome_of};
-ghost use Rattle.c6x_cli_run.specs.Placing.{IsPlaced};
-ghost use Rattle.c6x_cli_run.specs.Run.{IsReady};
-ghost use Rattle.c6x_cli_run.specs.Stages.{map_stages, run_stages};
-ghost use Rattle.c6x_cli_steps.specs.Exits.{Carries, put_outcome};
+ghost use Rattle.c6x_cli.specs.Meaning.{CanCommit, HasPolicy, asks, is_store, outcome_of};
+ghost use Rattle.c6x_cli_loading.specs.Placing.{CanLoad};
+ghost use Rattle.c6x_cli_run.specs.Stages.{asked_of, map_stages, run_stages};
+ghost use Rattle.c6x_cli_steps.specs.Exits.{Carries, asking_outcome, put_outcome};
 ghost use Rattle.c6x_cli_steps.specs.Stores.{KeepsWriteFaults};
 ghost use Rattle.c6x_cli_steps.specs.World.{world};
 
 use crate::prepared::Prepared;
+use crate::serving::first_policy;
 use c6x_board::Board;
+use c6x_cli_loading::Loading;
 use c6x_cli_objects::store_file;
-use c6x_cli_run::{PlacedProcess, ReadyProcess, put_map, put_run};
+use c6x_cli_run::{put_map, put_run};
 use c6x_cli_steps::CommitError;
-use c6x_ports::{Shelf, Sink};
+use c6x_policy::Kind;
+use c6x_ports::{Policy, Shelf, Sink};
 use std::alloc::Global;
 
 /// Stores, or writes the board and the output. The error output stays.
@@ -23,43 +27,51 @@ pub fn commit<S: Shelf, O: Sink>(
     shelf: &mut S,
     out: &mut O,
     board: &mut Board,
+    policies: &mut Vec<Box<dyn Policy>>,
 ) -> Result<(), CommitError>
-    requires { CanCommit board.old prepared }
+    requires ready { CanCommit board.old prepared }
+    requires served { HasPolicy (asks prepared) (map chooser policies.old.items) }
     ensures carries { (err : Taken) → Carries (outcome_of prepared board.old) result
-        (world (S.seen shelf.old) (O.seen out.old) err board.old) (world (S.seen shelf.new) (O.seen out.new) err board.new) }
+        (world (S.seen shelf.old) (O.seen out.old) err board.old (map chooser policies.old.items))
+        (world (S.seen shelf.new) (O.seen out.new) err board.new (map chooser policies.new.items)) }
     ensures write_faults { KeepsWriteFaults (is_store prepared) (S.seen shelf.old) (S.seen shelf.new) }
 {
     match prepared {
-        Prepared::Map(placed) => commit_map(&placed, out, board),
-        Prepared::Run(ready) => commit_run(ready, out, board),
+        Prepared::Map(loading) => commit_map(&loading, out, board),
+        Prepared::Run(loading, kind, seed) => {
+            commit_run(alloc, &loading, kind, seed, out, board, policies)
+        }
         Prepared::Store(name, bytes) => store_file(alloc, shelf, &name, &bytes),
     }
 }
 
 /// Puts the report of `map` and writes the board.
-fn commit_map<O: Sink>(
-    placed: &PlacedProcess,
-    out: &mut O,
-    board: &mut Board,
-) -> Result<(), CommitError>
-    requires { IsPlaced board.old placed.now }
-    ensures { (shelf : Shelved) → (err : Taken) → Carries (put_outcome (map_stages placed.now board.old)) result
-        (world shelf (O.seen out.old) err board.old) (world shelf (O.seen out.new) err board.new) }
+fn commit_map<O: Sink>(loading: &Loading, out: &mut O, board: &mut Board) -> Result<(), CommitError>
+    requires { CanLoad board.old.base (length board.old.bytes) loading.now }
+    ensures { (shelf : Shelved) → (err : Taken) → (policies : List Chooser) → Carries (put_outcome (map_stages loading.now board.old)) result
+        (world shelf (O.seen out.old) err board.old policies) (world shelf (O.seen out.new) err board.new policies) }
 {
-    put_map(placed, out, board)?;
-    Ok(())
+    put_map(loading, out, board)
 }
 
-/// Puts the report of `run`, runs the process and writes the board.
+/// Puts the report of `run`, runs the processes under the first policy of the kind and writes the board.
 fn commit_run<O: Sink>(
-    ready: ReadyProcess,
+    alloc: Global,
+    loading: &Loading,
+    kind: Kind,
+    seed: u32,
     out: &mut O,
     board: &mut Board,
+    policies: &mut Vec<Box<dyn Policy>>,
 ) -> Result<(), CommitError>
-    requires { IsReady board.old ready }
-    ensures { (shelf : Shelved) → (err : Taken) → Carries (put_outcome (run_stages ready.placed board.old)) result
-        (world shelf (O.seen out.old) err board.old) (world shelf (O.seen out.new) err board.new) }
+    requires loads { CanLoad board.old.base (length board.old.bytes) loading.now }
+    requires served { HasPolicy (Some kind) (map chooser policies.old.items) }
+    ensures { (shelf : Shelved) → (err : Taken) → Carries (asking_outcome (run_stages loading.now board.old) (asked_of kind seed loading.now)) result
+        (world shelf (O.seen out.old) err board.old (map chooser policies.old.items))
+        (world shelf (O.seen out.new) err board.new (map chooser policies.new.items)) }
 {
-    put_run(ready, out, board)?;
-    Ok(())
+    match first_policy(policies.as_slice(), kind) {
+        Some(place) => put_run(alloc, loading, seed, out, board, &mut policies[place]),
+        None => unreachable!(),
+    }
 }

@@ -1,31 +1,35 @@
-ghost use Rattle.std.specs.Prelude.{◌≡◌, ◌⊎◌, Some};
+ghost use Rattle.std.specs.Prelude.{◌≡◌, ◌⊎◌, Option, Some, map};
 ghost use Rattle.c6x_spec.specs.Files.{Files};
-ghost use Rattle.c6x_cli.specs.Meaning.{CanCommit, is_store, outcome_of, steps_of};
-ghost use Rattle.c6x_cli.specs.Requests.{EndsUsage, is_storing, request_of};
+ghost use Rattle.c6x_cli.specs.Meaning.{CanCommit, HasPolicy, asks, is_store, outcome_of, steps_of};
+ghost use Rattle.c6x_cli.specs.Serving.{EndsUsage, served};
 ghost use Rattle.c6x_cli_steps.specs.Exits.{Commits, Completes, Exits, LacksMemory, NoFault};
+ghost use Rattle.c6x_cli_steps.specs.Policies.{KeepsPolicies};
 ghost use Rattle.c6x_cli_steps.specs.Statuses.{Keeps, Performs, Shows};
 ghost use Rattle.c6x_cli_steps.specs.Stores.{KeepsWriteFaults};
 ghost use Rattle.c6x_cli_steps.specs.World.{world};
+ghost use Rattle.c6x_cli_words.specs.Requests.{IsReading, is_storing, kind_asked};
 
-use crate::arguments::parse_arguments;
 use crate::commit::commit;
 use crate::prepare::prepare;
 use crate::prepared::Prepared;
-use crate::request::Request;
+use crate::serving::serve;
 use c6x_base::Name;
 use c6x_board::Board;
 use c6x_cli_steps::{Cause, CommitError, PrepareError, report_error, report_write_fault};
-use c6x_ports::{Shelf, Sink};
+use c6x_cli_words::{Request, parse_words};
+use c6x_ports::{Policy, Shelf, Sink};
 use std::alloc::Global;
 
-/// Does what the words ask for, over a shelf of files, an output, an error output and a board, and gives the exit
+/// Does what the words ask for, over a shelf of files, an output, an error output, a board and policies, and gives the exit
 /// status.
 ///
 /// `as IN OUT` assembles the text IN and stores its object file as OUT; `ld PLAN OUT` links the objects of the link plan
-/// PLAN and stores the module as OUT; `map PLAN` lays the plan's process out on the board and lists where everything
-/// stands; `run PLAN` also runs it to its end, and tells how it ended, after how many cycles and with which output. Statuses: 0 where all was done, 2 where the words have no reading, 3 where a file is
-/// missing, 4 where a rule is broken, 5 where a file could not be read, 6 where a sink, or the shelf in `as` and `ld`, could
-/// not write, and 7 where memory ran out. For each status but 0 one line is put on the error output.
+/// PLAN and stores the module as OUT; `map PLAN` lays the plan's processes out on the board and lists where everything
+/// stands and what the tables hold; `run PLAN` also runs them to their ends, in turns of the first policy of the kind that
+/// `--policy` names, which begins with the number of `--seed`, and tells how each ended, after how many cycles and with
+/// which output. Statuses: 0 where all was done, 2 where the words have no reading or no policy is of the kind, 3 where a
+/// file is missing, 4 where a rule is broken, 5 where a file could not be read, 6 where a sink, or the shelf in `as` and
+/// `ld`, could not write, and 7 where memory ran out. For each status but 0 one line is put on the error output.
 pub fn command<S: Shelf, O: Sink, E: Sink>(
     alloc: Global,
     words: Vec<Name>,
@@ -33,34 +37,51 @@ pub fn command<S: Shelf, O: Sink, E: Sink>(
     out: &mut O,
     err: &mut E,
     board: &mut Board,
+    policies: &mut Vec<Box<dyn Policy>>,
 ) -> u8
     // On told files a command ends as its words, the files and the board say, or stopped by a device or for want of memory.
-    ensures exits { (told : Files) → (S.seen shelf.old).files ≡ Some told
-        → Exits (steps_of (request_of words.items) told board.old) result
-        (world (S.seen shelf.old) (O.seen out.old) (E.seen err.old) board.old)
-        (world (S.seen shelf.new) (O.seen out.new) (E.seen err.new) board.new) }
+    ensures exits { (read : Option Request) → IsReading words.items read → (told : Files) → (S.seen shelf.old).files ≡ Some told
+        → Exits (steps_of (served read (map chooser policies.old.items)) told board.old) result
+        (world (S.seen shelf.old) (O.seen out.old) (E.seen err.old) board.old (map chooser policies.old.items))
+        (world (S.seen shelf.new) (O.seen out.new) (E.seen err.new) board.new (map chooser policies.new.items)) }
 
     // Where no device fails, it ends exactly so, or for want of memory.
-    ensures completes { (told : Files) → (S.seen shelf.old).files ≡ Some told
+    ensures completes { (read : Option Request) → IsReading words.items read → (told : Files) → (S.seen shelf.old).files ≡ Some told
         → NoFault
-        (world (S.seen shelf.old) (O.seen out.old) (E.seen err.old) board.old)
-        (world (S.seen shelf.new) (O.seen out.new) (E.seen err.new) board.new)
-        → Completes (steps_of (request_of words.items) told board.old) result
-        (world (S.seen shelf.old) (O.seen out.old) (E.seen err.old) board.old)
-        (world (S.seen shelf.new) (O.seen out.new) (E.seen err.new) board.new) }
+        (world (S.seen shelf.old) (O.seen out.old) (E.seen err.old) board.old (map chooser policies.old.items))
+        (world (S.seen shelf.new) (O.seen out.new) (E.seen err.new) board.new (map chooser policies.new.items))
+        → Completes (steps_of (served read (map chooser policies.old.items)) told board.old) result
+        (world (S.seen shelf.old) (O.seen out.old) (E.seen err.old) board.old (map chooser policies.old.items))
+        (world (S.seen shelf.new) (O.seen out.new) (E.seen err.new) board.new (map chooser policies.new.items)) }
 
-    // On any devices: what each status shows of them, when it is 2, and what the command keeps.
-    ensures shows { Shows result (is_storing (request_of words.items))
-        (world (S.seen shelf.old) (O.seen out.old) (E.seen err.old) board.old)
-        (world (S.seen shelf.new) (O.seen out.new) (E.seen err.new) board.new) }
-    ensures usage { EndsUsage result (request_of words.items) }
-    ensures keeps { Keeps (is_storing (request_of words.items))
-        (world (S.seen shelf.old) (O.seen out.old) (E.seen err.old) board.old)
-        (world (S.seen shelf.new) (O.seen out.new) (E.seen err.new) board.new) }
+    // On any devices: what each status shows of them and of the policies, when it is 2, and what the command keeps.
+    ensures shows { (read : Option Request) → IsReading words.items read
+        → Shows result (is_storing (served read (map chooser policies.old.items)))
+        (world (S.seen shelf.old) (O.seen out.old) (E.seen err.old) board.old (map chooser policies.old.items))
+        (world (S.seen shelf.new) (O.seen out.new) (E.seen err.new) board.new (map chooser policies.new.items)) }
+    ensures usage { (read : Option Request) → IsReading words.items read
+        → EndsUsage result (served read (map chooser policies.old.items)) }
+    ensures keeps { (read : Option Request) → IsReading words.items read
+        → Keeps (is_storing (served read (map chooser policies.old.items)))
+        (world (S.seen shelf.old) (O.seen out.old) (E.seen err.old) board.old (map chooser policies.old.items))
+        (world (S.seen shelf.new) (O.seen out.new) (E.seen err.new) board.new (map chooser policies.new.items)) }
+    ensures policies { (read : Option Request) → IsReading words.items read
+        → KeepsPolicies result (kind_asked (served read (map chooser policies.old.items))) (map chooser policies.old.items) (map chooser policies.new.items) }
 {
-    match parse_arguments(words) {
-        Some(request) => perform(alloc, request, shelf, out, err, board),
+    match request_of(words, policies) {
+        Some(request) => perform(alloc, request, shelf, out, err, board, policies),
         None => report_error(err, PrepareError::Because(Cause::Usage)),
+    }
+}
+
+/// What the words ask for, where the policy that it asks for is there.
+fn request_of(words: Vec<Name>, policies: &Vec<Box<dyn Policy>>) -> Option<Request>
+    ensures served { (read : Option Request) → IsReading words.items read → result ≡ served read (map chooser policies.now.items) }
+    ensures there { HasPolicy (kind_asked result) (map chooser policies.now.items) }
+{
+    match parse_words(words) {
+        Some(request) => serve(request, policies),
+        None => None,
     }
 }
 
@@ -72,13 +93,15 @@ fn perform<S: Shelf, O: Sink, E: Sink>(
     out: &mut O,
     err: &mut E,
     board: &mut Board,
+    policies: &mut Vec<Box<dyn Policy>>,
 ) -> u8
-    ensures { Performs (λ told. steps_of (Some request) told board.old) (is_storing (Some request)) result
-        (world (S.seen shelf.old) (O.seen out.old) (E.seen err.old) board.old)
-        (world (S.seen shelf.new) (O.seen out.new) (E.seen err.new) board.new) }
+    requires { HasPolicy (kind_asked (Some request)) (map chooser policies.old.items) }
+    ensures { Performs (λ told. steps_of (Some request) told board.old) (is_storing (Some request)) (kind_asked (Some request)) result
+        (world (S.seen shelf.old) (O.seen out.old) (E.seen err.old) board.old (map chooser policies.old.items))
+        (world (S.seen shelf.new) (O.seen out.new) (E.seen err.new) board.new (map chooser policies.new.items)) }
 {
     match prepare(alloc, request, shelf, board) {
-        Ok(prepared) => finish(alloc, prepared, shelf, out, err, board),
+        Ok(prepared) => finish(alloc, prepared, shelf, out, err, board, policies),
         Err(stop) => report_error(err, stop),
     }
 }
@@ -91,17 +114,19 @@ fn finish<S: Shelf, O: Sink, E: Sink>(
     out: &mut O,
     err: &mut E,
     board: &mut Board,
+    policies: &mut Vec<Box<dyn Policy>>,
 ) -> u8
-    requires { CanCommit board.old prepared }
+    requires ready { CanCommit board.old prepared }
+    requires served { HasPolicy (asks prepared) (map chooser policies.old.items) }
     ensures ends { Commits (outcome_of prepared board.old) result
-        (world (S.seen shelf.old) (O.seen out.old) (E.seen err.old) board.old)
-        (world (S.seen shelf.new) (O.seen out.new) (E.seen err.new) board.new)
+        (world (S.seen shelf.old) (O.seen out.old) (E.seen err.old) board.old (map chooser policies.old.items))
+        (world (S.seen shelf.new) (O.seen out.new) (E.seen err.new) board.new (map chooser policies.new.items))
         ⊎ LacksMemory result
-        (world (S.seen shelf.old) (O.seen out.old) (E.seen err.old) board.old)
-        (world (S.seen shelf.new) (O.seen out.new) (E.seen err.new) board.new) }
+        (world (S.seen shelf.old) (O.seen out.old) (E.seen err.old) board.old (map chooser policies.old.items))
+        (world (S.seen shelf.new) (O.seen out.new) (E.seen err.new) board.new (map chooser policies.new.items)) }
     ensures write_faults { KeepsWriteFaults (is_store prepared) (S.seen shelf.old) (S.seen shelf.new) }
 {
-    match commit(alloc, prepared, shelf, out, board) {
+    match commit(alloc, prepared, shelf, out, board, policies) {
         Ok(()) => 0,
         Err(CommitError::WriteFault) => report_write_fault(err),
         Err(CommitError::Memory) => report_error(err, PrepareError::Memory),

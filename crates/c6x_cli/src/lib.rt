@@ -1,11 +1,10 @@
-//! The commands of `c6x` over a shelf of files, an output, an error output and a board.
+//! The commands of `c6x` over a shelf of files, an output, an error output, a board and policies.
 #![tactic(auto)]
 
-mod arguments;
 mod commit;
 mod dispatch;
 mod prepare;
 mod prepared;
-mod request;
+mod serving;
 
 pub use dispatch::command;

@@ -1,16 +1,19 @@
-ghost use Rattle.std.specs.Prelude.{◌≡◌, true, false, Some, IfOk};
-ghost use Rattle.c6x_cli.specs.declared.request.Request.TheVariants.{Assemble as assemble_request, Link as link_request, Map as map_request, Run as run_request};
-ghost use Rattle.c6x_cli.specs.Meaning.{CanCommit, is_store, outcome_of, request_steps};
-ghost use Rattle.c6x_cli.specs.Requests.{is_storing};
+ghost use Rattle.std.specs.Prelude.{◌≡◌, true, false, None, Some, IfOk, length};
+ghost use Rattle.c6x_cli_words.specs.declared.request.Request.TheVariants.{Assemble as assemble_request, Link as link_request, Map as map_request, Run as run_request};
+ghost use Rattle.c6x_cli.specs.Meaning.{CanCommit, asks, is_store, outcome_of, request_steps};
+ghost use Rattle.c6x_cli_words.specs.Requests.{is_storing, kind_asked};
+ghost use Rattle.c6x_cli_loading.specs.Loading.{loading_steps};
+ghost use Rattle.c6x_cli_loading.specs.Placing.{CanLoad};
 ghost use Rattle.c6x_cli_steps.specs.Steps.{Prepares};
 
 use crate::prepared::Prepared;
-use crate::request::Request;
 use c6x_base::Name;
 use c6x_board::Board;
+use c6x_cli_loading::{Loading, prepare_loading};
 use c6x_cli_objects::{prepare_module, prepare_object};
-use c6x_cli_run::{prepare_placed, prepare_process};
 use c6x_cli_steps::PrepareError;
+use c6x_cli_words::Request;
+use c6x_policy::Kind;
 use c6x_ports::Shelf;
 use std::alloc::Global;
 
@@ -24,6 +27,7 @@ pub fn prepare<S: Shelf>(
     ensures prepares { Prepares (λ prepared. outcome_of prepared board.now) (λ told. request_steps request told board.now) (S.seen shelf.old) (S.seen shelf.new) result }
     ensures ready { IfOk result (CanCommit board.now) }
     ensures kind { IfOk result (λ prepared. is_store prepared ≡ is_storing (Some request)) }
+    ensures asks { IfOk result (λ prepared. asks prepared ≡ kind_asked (Some request)) }
 {
     match request {
         Request::Assemble { input, output } => prepare_assembling(
@@ -31,7 +35,9 @@ pub fn prepare<S: Shelf>(
         ),
         Request::Link { plan, output } => prepare_linking(alloc, &plan, output, shelf, board),
         Request::Map { plan } => prepare_map(alloc, &plan, shelf, board),
-        Request::Run { plan } => prepare_run(alloc, &plan, shelf, board),
+        Request::Run { plan, policy, seed } => {
+            prepare_run(alloc, &plan, policy, seed, shelf, board)
+        }
     }
 }
 
@@ -46,6 +52,7 @@ fn prepare_assembling<S: Shelf>(
     ensures prepares { Prepares (λ prepared. outcome_of prepared board.now) (λ told. request_steps (assemble_request input.now output) told board.now) (S.seen shelf.old) (S.seen shelf.new) result }
     ensures ready { IfOk result (CanCommit board.now) }
     ensures kind { IfOk result (λ prepared. is_store prepared ≡ true) }
+    ensures asks { IfOk result (λ prepared. asks prepared ≡ None) }
 {
     let bytes = prepare_object(alloc, shelf, input)?;
     Ok(Prepared::Store(output, bytes))
@@ -62,9 +69,23 @@ fn prepare_linking<S: Shelf>(
     ensures prepares { Prepares (λ prepared. outcome_of prepared board.now) (λ told. request_steps (link_request plan.now output) told board.now) (S.seen shelf.old) (S.seen shelf.new) result }
     ensures ready { IfOk result (CanCommit board.now) }
     ensures kind { IfOk result (λ prepared. is_store prepared ≡ true) }
+    ensures asks { IfOk result (λ prepared. asks prepared ≡ None) }
 {
     let module = prepare_module(alloc, shelf, plan)?;
     Ok(Prepared::Store(output, module))
+}
+
+/// What a plan comes to on this board.
+fn loading_on<S: Shelf>(
+    alloc: Global,
+    shelf: &mut S,
+    plan: &Name,
+    board: &Board,
+) -> Result<Loading, PrepareError>
+    ensures prepares { Prepares (λ loading. loading) (λ told. loading_steps told plan.now board.now.base (length board.now.bytes)) (S.seen shelf.old) (S.seen shelf.new) result }
+    ensures loads { IfOk result (CanLoad board.now.base (length board.now.bytes)) }
+{
+    prepare_loading(alloc, shelf, plan, board.base(), board.len())
 }
 
 /// Does all that `map` decides before anything is written.
@@ -77,22 +98,26 @@ fn prepare_map<S: Shelf>(
     ensures prepares { Prepares (λ prepared. outcome_of prepared board.now) (λ told. request_steps (map_request plan.now) told board.now) (S.seen shelf.old) (S.seen shelf.new) result }
     ensures ready { IfOk result (CanCommit board.now) }
     ensures kind { IfOk result (λ prepared. is_store prepared ≡ false) }
+    ensures asks { IfOk result (λ prepared. asks prepared ≡ None) }
 {
-    let placed = prepare_placed(alloc, shelf, plan, board)?;
-    Ok(Prepared::Map(placed))
+    let loading = loading_on(alloc, shelf, plan, board)?;
+    Ok(Prepared::Map(loading))
 }
 
 /// Does all that `run` decides before anything is written.
 fn prepare_run<S: Shelf>(
     alloc: Global,
     plan: &Name,
+    policy: Kind,
+    seed: u32,
     shelf: &mut S,
     board: &Board,
 ) -> Result<Prepared, PrepareError>
-    ensures prepares { Prepares (λ prepared. outcome_of prepared board.now) (λ told. request_steps (run_request plan.now) told board.now) (S.seen shelf.old) (S.seen shelf.new) result }
+    ensures prepares { Prepares (λ prepared. outcome_of prepared board.now) (λ told. request_steps (run_request plan.now policy seed) told board.now) (S.seen shelf.old) (S.seen shelf.new) result }
     ensures ready { IfOk result (CanCommit board.now) }
     ensures kind { IfOk result (λ prepared. is_store prepared ≡ false) }
+    ensures asks { IfOk result (λ prepared. asks prepared ≡ Some policy) }
 {
-    let ready = prepare_process(alloc, shelf, plan, board)?;
-    Ok(Prepared::Run(ready))
+    let loading = loading_on(alloc, shelf, plan, board)?;
+    Ok(Prepared::Run(loading, policy, seed))
 }

@@ -1,13 +1,14 @@
 use c6x_base::{Bytes, Name};
-use c6x_cli_run::{PlacedProcess, ReadyProcess};
+use c6x_cli_loading::Loading;
+use c6x_policy::Kind;
 
 /// A command that nothing stops any more but its devices.
 #[derive(Drop)]
 pub enum Prepared {
-    /// The process stands where the report says.
-    Map(PlacedProcess),
-    /// The process stands there, is made, and has done no cycle.
-    Run(ReadyProcess),
+    /// The plan that is to be loaded and listed.
+    Map(Loading),
+    /// The plan that is to be run under the first policy of a kind, which begins with a seed.
+    Run(Loading, Kind, u32),
     /// These bytes are to be stored under the name.
     Store(Name, Bytes),
 }

@@ -1,6 +1,7 @@
-ghost use Rattle.std.specs.Prelude.{◌≡◌, ◌≤◌, Some, OnOk};
+ghost use Rattle.std.specs.Prelude.{◌≡◌, ◌≤◌, List, Some, OnOk};
 ghost use Rattle.c6x_spec.specs.Files.{Rose};
 ghost use Rattle.c6x_spec.specs.Memory.{Memory};
+ghost use Rattle.c6x_policy.specs.Chooser.{Chooser};
 ghost use Rattle.c6x_ports.specs.Sink.{Taken};
 ghost use Rattle.c6x_cli_steps.specs.declared.commit_error.CommitError.TheVariants.{Memory as memory, WriteFault as write_fault};
 ghost use Rattle.c6x_cli_steps.specs.Exits.{Carries, store_outcome};
@@ -19,8 +20,8 @@ pub fn store_file<S: Shelf>(
     name: &Name,
     bytes: &Bytes,
 ) -> Result<(), CommitError>
-    ensures carries { (out err : Taken) → (board : Memory) → Carries (store_outcome name.now bytes.now board) result
-        (world (S.seen shelf.old) out err board) (world (S.seen shelf.new) out err board) }
+    ensures carries { (out err : Taken) → (board : Memory) → (policies : List Chooser) → Carries (store_outcome name.now bytes.now board) result
+        (world (S.seen shelf.old) out err board policies) (world (S.seen shelf.new) out err board policies) }
     ensures counted { (S.seen shelf.old).write_faults ≤ (S.seen shelf.new).write_faults }
 {
     store_bytes(alloc, shelf, name, bytes)

@@ -1,3 +1,3 @@
-pub mod SlotLines
-pub mod Slots
 pub mod Runs
+pub mod Delivering
+pub mod Loads

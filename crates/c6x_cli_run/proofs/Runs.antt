@@ -1,119 +1,73 @@
-use Rattle.std.proofs.Common.{◌≡◌, ℕ, ◌+◌, ◌-◌, Bool, true, false, ◌||◌, ◌<◌, ◌≤◌, List, [], length, get_or, refl, sym, ◌∙◌, ap, subst, arith}
-use Rattle.std.specs.Prelude.{Some, if◌then◌else◌, slice_index}
-use Rattle.std.proofs.lemmas.Bool.Decides.{nat_tests}
-use Rattle.std.proofs.lemmas.List.FromFn.{fill_by_all}
-use Rattle.c6x_spec.specs.Memory.{Memory, IsOnMemory}
-use Rattle.c6x_machine.specs.declared.end.End.{End}
-use Rattle.c6x_exec.specs.declared.process.Process.{Process}
+-- What a run of all processes leaves.
+use Rattle.std.proofs.Common.{◌≡◌, ◌≢◌, ℕ, ◌<◌, ◌≤◌, List, [], ◌∷◌, length, refl, sym, ◌∙◌, ap, subst, arith}
+use Rattle.std.specs.Prelude.{IsTrue, Result, Ok, Err}
+use Rattle.std.specs.List.{Contains}
+use Rattle.std.proofs.lemmas.Option.{slice_get_within}
+use Rattle.c6x_spec.specs.Files.{Rose}
+use Rattle.c6x_spec.specs.Memory.{Memory}
+use Rattle.c6x_access.specs.Rights.{allowed}
 use Rattle.c6x_access.specs.declared.right.Right.TheVariants.{Write}
-use Rattle.c6x_access.specs.declared.area.Area.{Area}
-use Rattle.c6x_access.specs.Rights.{allowed, is_inside, is_own}
-use Rattle.c6x_access.proofs.Bytes.{allowed_own}
-use Rattle.c6x_board.specs.Lane.{LieOn}
-use Rattle.c6x_exec.specs.Fits.{IsFramed}
-use Rattle.c6x_machine.specs.History.{Effect, output_of}
-use Rattle.c6x_machine.specs.Machine.{alone, life, life_by}
 use Rattle.c6x_machine.specs.Origin.{Origin}
-use Rattle.c6x_exec.specs.Process.{HasRun}
-use Rattle.c6x_exec.specs.Stands.{HoldsBytes, Keeps}
-use Rattle.c6x_load.proofs.OwnBytes.{own_in_areas}
-use Rattle.c6x_load.specs.Loaded.{HoldsStart}
-use Rattle.c6x_load.specs.Start.{start_byte}
-use Rattle.c6x_cli_run.specs.declared.placed_process.PlacedProcess.{PlacedProcess}
-use Rattle.c6x_cli_run.specs.Placing.{IsPlaced}
-use Rattle.c6x_cli_run.specs.Run.{areas_of_process, origin_of_process, last_of, HoldsEnd, board_at, byte_then, process_line, life_line, start_board, end_board}
+use Rattle.c6x_exec.specs.declared.process.Process.{Process}
+use Rattle.c6x_policy.specs.Chooser.{Chooser, Begins}
+use Rattle.c6x_policy.specs.Picks.{is_named}
+use Rattle.c6x_processes.specs.Together.{AllStand, AreFramed}
+use Rattle.c6x_sched.specs.Play.{Game, HasPlayed, game_of}
+use Rattle.c6x_sched.specs.Turns.{ready_of}
+use Rattle.c6x_sched.proofs.At.{Found, found_at}
+use Rattle.c6x_sched.proofs.Open.{runs_ready}
+use Rattle.c6x_sched.proofs.Whole.{left_is}
+use Rattle.c6x_load.specs.Made.{AreFresh}
+use Rattle.c6x_cli_steps.specs.Policies.{Asked, HasAnswered}
+use Rattle.c6x_cli_turns.specs.Boards.{boards_at}
+use Rattle.c6x_cli_turns.proofs.Stands.{board_of_all}
+use Rattle.c6x_cli_loading.specs.declared.loading.Loading.{Loading}
+use Rattle.c6x_cli_run.specs.Boards.{count_of, game_with, starts_of}
+use Rattle.c6x_cli_run.specs.Runs.{AskedOnce}
+use Rattle.c6x_cli_run.specs.Stages.{asked_of}
 
--- a board that holds the start holds the bytes of the areas
-pub bytes_are_held : (placed : PlacedProcess) (before after : Memory) → HoldsStart placed.image placed.plan.stack placed.one before after → HoldsBytes after (start_byte placed.image placed.one) (areas_of_process placed)
-bytes_are_held placed before after start = λ x own. start.own x (sym (own_in_areas placed.image placed.plan.stack placed.one x) ∙ own)
+-- the processes may write where they could at their starts
+framed_later : (ps qs : List Process) (b c : Memory) (s : ℕ → Origin) (n m : ℕ → ℕ) → AllStand ps b s n → AllStand qs c s m → length qs ≡ length ps → AreFramed ps b c → AreFramed qs b c
+framed_later ps qs b c s n m first last count k = record {
+  base = k.base;
+  size = k.size;
+  others = λ x above none. k.others x above (λ i p is.
+      let within : i < length ps = slice_get_within ps i p is in
+      let now : Found qs i = found_at qs i (omega (arith, within, count)) in
+      ap (λ areas. allowed areas Write x) ((first i p is).areas ∙ sym (last i now.process now.is).areas) ∙ none i now.process now.is);
+}
 
--- a process that has run to its end leaves the bytes of its end
-pub end_is_held : (placed : PlacedProcess) (p : Process) (b : Memory) (end : End) → HasRun p b (origin_of_process placed) end → HoldsEnd placed b
-unfolding life_by
-end_is_held placed p b end ran =
-    let s : Origin = origin_of_process placed in
-    let keeps : Keeps p.context b s (alone s s.limit) = subst (λ at. Keeps p.context b s at) ran.last ran.stands.keeps in
-    record { bytes = λ x own. keeps.tracks.bytes (life s) x own (omega arith) }
+-- the board is the one that all of them stand for
+pub board_is : (ps qs : List Process) (b c : Memory) (s : ℕ → Origin) (n m : ℕ → ℕ) (count : ℕ) → AllStand ps b s n → AllStand qs c s m → length qs ≡ length ps → length ps ≡ count → AreFramed ps b c → c ≡ boards_at s m count b
+board_is ps qs b c s n m count first last same is k =
+    board_of_all qs s m b c last (framed_later ps qs b c s n m first last same k)
+    ∙ ap (λ (size : ℕ). boards_at s m size b) (same ∙ is)
 
--- one byte of the board, whether it is the process's or not
-byte_by : (own : Bool) (at start before : ℕ) → (own ≡ true → at ≡ start) → (own ≡ false → at ≡ before) → at ≡ (if own then start else before)
-byte_by true at start before is _ = is refl
-byte_by false at start before _ is = is refl
+-- a first process that has not ended is ready
+listed : (numbers : List ℕ) (x : ℕ) → Contains numbers x → numbers ≢ []
+listed [] x k is = absurd (omega (arith, k.1))
+listed (number ∷ numbers) x k is = cc
 
-same_memory : (m n : Memory) → m.base ≡ n.base → m.bytes ≡ n.bytes → m ≡ n
-same_memory m n base bytes = rw (base, bytes) refl
+pub some_ready : (ps : List Process) → AreFresh ps → 1 ≤ length ps → ready_of ps ≢ []
+some_ready ps fresh some =
+    let one : Found ps 0 = found_at ps 0 (omega (arith, some)) in
+    listed (ready_of ps) 0 (runs_ready ps 0 (record { process = one.process; is = one.is; running = fresh 0 one.process one.is }))
 
--- a byte of no area may not be written
-kept_elsewhere : (areas : List Area) (x : ℕ) (may : Bool) → may ≡ allowed areas Write x → is_own areas x ≡ false → may ≡ false
-kept_elsewhere areas x true may_is other =
-    let own : is_own areas x ≡ true = allowed_own areas Write x (sym may_is) in
-    cc
-kept_elsewhere areas x false may_is other = refl
+-- a policy of a named kind that has begun plays the game of the plan
+game_is : (loading : Loading) (ps : List Process) (size quantum seed : ℕ) (was begun : Chooser) → length ps ≡ count_of loading → quantum ≡ loading.plan.quantum → Begins size loading.plan.quantum seed was begun → size ≡ count_of loading → IsTrue (is_named was.kind) → game_of ps quantum begun (starts_of loading) (λ number. 0) ≡ game_with was.kind seed loading
+game_is loading ps size quantum seed was begun count is k all named = rw (count, is, k.kind, k.state named, all) refl
 
--- a board that holds the end, and elsewhere what it had, is the one at the end
-pub board_at_end : (placed : PlacedProcess) (before amid after : Memory) → HoldsStart placed.image placed.plan.stack placed.one before amid → IsFramed (areas_of_process placed) amid after → HoldsEnd placed after → after ≡ end_board placed before
-unfolding end_board board_at
-board_at_end placed before amid after start frame end =
-    let s : Origin = origin_of_process placed in
-    let h : List Effect = (last_of placed).history in
-    let base : after.base ≡ before.base = frame.base ∙ start.base in
-    let middle : amid.base ≡ before.base = start.base in
-    same_memory after (board_at s h (life s) before) base
-    (fill_by_all (byte_then s h (life s) before) after.bytes (length before.bytes) 0 (frame.size ∙ start.size) (λ k inside.
-    let here : k ≡ before.base + k - after.base = omega arith in
-    let there : before.base + k - before.base ≡ k = omega arith in
-    byte_by (is_own s.areas (before.base + k)) (get_or after.bytes k 0) _ _
-    (λ own. ap (λ i. slice_index after.bytes i) here ∙ end.bytes (before.base + k) own)
-    (λ other. ap (λ i. slice_index after.bytes i) here
-    ∙ frame.others (before.base + k) (omega arith) (kept_elsewhere (areas_of_process placed) (before.base + k) (allowed (areas_of_process placed) Write (before.base + k)) refl other)
-    ∙ start.others (before.base + k) (omega arith) (sym (own_in_areas placed.image placed.plan.stack placed.one (before.base + k)) ∙ other)
-    ∙ ap (λ i. slice_index before.bytes i) there)))
+-- so its state is the one that the turns leave
+pub answered : (loading : Loading) (ps qs : List Process) (b : Memory) (size quantum seed : ℕ) (was begun now : Chooser) → length ps ≡ count_of loading → quantum ≡ loading.plan.quantum → Begins size loading.plan.quantum seed was begun → size ≡ count_of loading → HasPlayed (game_of ps quantum begun (starts_of loading) (λ number. 0)) qs b now.state → now.kind ≡ begun.kind → Rose begun.answers now.answers → HasAnswered (asked_of was.kind seed loading) was now
+answered loading ps qs b size quantum seed was begun now count is k all played kind rose = record {
+  kind = kind ∙ k.kind;
+  left = λ named.
+      let P : Game → Type 0 = λ g. HasPlayed g qs b now.state in
+      left_is (game_with was.kind seed loading) qs b now.state named
+      (subst P (game_is loading ps size quantum seed was begun count is k all named) played);
+  answered = subst (λ (n : ℕ). Rose n now.answers) k.answers rose;
+}
 
--- a board that holds the start, and elsewhere what it had, is the one at the start
-pub board_at_start : (placed : PlacedProcess) (before after : Memory) → HoldsStart placed.image placed.plan.stack placed.one before after → after ≡ start_board placed before
-unfolding board_at
-board_at_start placed before after start =
-    let s : Origin = origin_of_process placed in
-    same_memory after (board_at s [] 0 before) start.base
-    (fill_by_all (byte_then s [] 0 before) after.bytes (length before.bytes) 0 start.size (λ k inside.
-    let here : k ≡ before.base + k - after.base = omega (arith, start.base) in
-    byte_by (is_own s.areas (before.base + k)) (get_or after.bytes k 0) _ _
-    (λ own. ap (λ i. slice_index after.bytes i) here
-    ∙ start.own (before.base + k) (sym (own_in_areas placed.image placed.plan.stack placed.one (before.base + k)) ∙ own))
-    (λ other. ap (λ i. slice_index after.bytes i) here
-    ∙ start.others (before.base + k) (omega arith) (sym (own_in_areas placed.image placed.plan.stack placed.one (before.base + k)) ∙ other)
-    ∙ ap (λ i. slice_index before.bytes i) (omega arith))))
-
--- a byte of a range that ends on the memory is on it
-on_memory : (m : Memory) (lo len x : ℕ) → m.base ≤ lo → lo + len ≤ m.base + length m.bytes → is_inside lo len x ≡ true → IsOnMemory m x 1
-on_memory m lo len x above within inside =
-    let from : lo ≤ x = grind (arith, nat_tests) in
-    let to : x < lo + len = grind (arith, nat_tests) in
-    record { above = omega arith; within = omega arith }
-
-by_three : (P : Type 0) (a b c : Bool) → (a || (b || (c || false))) ≡ true → (a ≡ true → P) → (b ≡ true → P) → (c ≡ true → P) → P
-by_three P true b c is one two three = one refl
-by_three P false true c is one two three = two refl
-by_three P false false true is one two three = three refl
-by_three P false false false is one two three = absurd (let never : false ≡ true = is in cc)
-
--- the areas of a loaded process lie on the board
-pub areas_on_board : (placed : PlacedProcess) (before after : Memory) → IsPlaced before placed → HoldsStart placed.image placed.plan.stack placed.one before after → LieOn after (areas_of_process placed)
-areas_on_board placed before after ready start x own =
-    let base : after.base ≡ before.base = start.base in
-    let size : length after.bytes ≡ length before.bytes = start.size in
-    let text : before.base ≤ placed.one.text = ready.standing.text.above in
-    let range : placed.one.text + placed.image.text.memsz ≤ placed.one.data = ready.standing.range.above in
-    let stack : placed.one.data + placed.image.memory.memsz ≤ placed.one.stack = ready.standing.stack.above in
-    let text_end : placed.one.text + placed.image.text.memsz ≤ before.base + length before.bytes = ready.standing.text_end in
-    let range_end : placed.one.data + placed.image.memory.memsz ≤ before.base + length before.bytes = ready.standing.range_end in
-    let stack_end : placed.one.stack + placed.plan.stack ≤ before.base + length before.bytes = ready.standing.stack_end in
-    by_three (IsOnMemory after x 1) (is_inside placed.one.text placed.image.text.memsz x) (is_inside placed.one.data placed.image.memory.memsz x) (is_inside placed.one.stack placed.plan.stack x) own
-    (λ inside. on_memory after placed.one.text placed.image.text.memsz x (omega arith) (omega arith) inside)
-    (λ inside. on_memory after placed.one.data placed.image.memory.memsz x (omega arith) (omega arith) inside)
-    (λ inside. on_memory after placed.one.stack placed.plan.stack x (omega arith) (omega arith) inside)
-
--- the line of a process that has run to its end
-pub life_line_is : (placed : PlacedProcess) (end : End) (cycles : ℕ) (output : List ℕ) → (last_of placed).ended ≡ Some end → cycles ≡ life (origin_of_process placed) → output ≡ output_of (last_of placed).history → life_line placed ≡ process_line placed.plan.process end cycles output
-unfolding life_line
-life_line_is placed end cycles output ended count bytes = rw (ended, count, bytes) refl
+pub asked_once : {A E : Type 0} (asked : Asked) (before after : Chooser) (result : Result A E) → HasAnswered asked before after → AskedOnce asked before after result
+asked_once asked before after (Ok _) k = record { answers = k; kind = k.kind }
+asked_once asked before after (Err _) k = record { answers = tt; kind = k.kind }

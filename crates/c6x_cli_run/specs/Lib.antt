@@ -1,4 +1,3 @@
-pub mod Placing
-pub mod Report
-pub mod Run
+pub mod Boards
 pub mod Stages
+pub mod Runs

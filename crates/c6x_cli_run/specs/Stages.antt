@@ -1,26 +1,28 @@
-use Rattle.std.specs.Prelude.{◌≡◌, ℕ, ◌+◌, ◌-◌, ◌*◌, ◌<◌, ◌≤◌, false, List, [], ◌∷◌, length}
+-- What `map` and `run` put, and the board at each of their texts.
+use Rattle.std.specs.Prelude.{ℕ, List, [], ◌∷◌, ◌++◌}
 use Rattle.c6x_spec.specs.Memory.{Memory}
-use Rattle.c6x_spec.specs.Numbers.{word_at}
-use Rattle.c6x_load.specs.Start.{moved_table, slot_value}
+use Rattle.c6x_policy.specs.declared.kind.Kind.{Kind}
+use Rattle.c6x_sched.specs.Left.{left}
+use Rattle.c6x_cli_steps.specs.Policies.{Asked}
 use Rattle.c6x_cli_steps.specs.Stages.{Stage}
-use Rattle.c6x_cli_run.specs.declared.placed_process.PlacedProcess.{PlacedProcess}
-use Rattle.c6x_cli_run.specs.Report.{base_lines, map_text}
-use Rattle.c6x_cli_run.specs.Run.{life_line, start_board, end_board}
+use Rattle.c6x_cli_loading.specs.declared.loading.Loading.{Loading}
+use Rattle.c6x_cli_report.specs.Bases.{base_text}
+use Rattle.c6x_cli_report.specs.Ends.{ends_text}
+use Rattle.c6x_cli_report.specs.Values.{value_text}
+use Rattle.c6x_cli_run.specs.Boards.{starts_of, start_board, end_board, game_with}
 
--- What `map` does: it puts the whole report once the process stands on the board.
-abbrev pub map_stages : PlacedProcess → Memory → List Stage
-map_stages placed board = record { text = map_text placed; board = start_board placed board } ∷ []
+-- `map` puts the whole report once the plan is loaded.
+abbrev pub map_stages : Loading → Memory → List Stage
+map_stages loading board =
+    record { text = base_text loading ++ value_text loading; board = start_board loading board } ∷ []
 
--- What `run` does: it puts the lines on where everything stands before the first cycle, and the process's line at its
--- end.
-abbrev pub run_stages : PlacedProcess → Memory → List Stage
-run_stages placed board =
-    record { text = life_line placed; board = end_board placed board }
-    ∷ record { text = base_lines placed; board = start_board placed board } ∷ []
+-- `run` puts where everything stands before the first cycle, and the line and the output of each process once all have
+-- ended.
+abbrev pub run_stages : Loading → Memory → List Stage
+run_stages loading board =
+    record { text = ends_text loading.plan.processes (starts_of loading); board = end_board loading board }
+    ∷ record { text = base_text loading; board = start_board loading board } ∷ []
 
--- The table stands on the board, and its words are the values of its slots.
-pub record AreSlots (placed : PlacedProcess) (board : Memory) : Type 0 where
-  pub above : board.base ≤ moved_table placed.image placed.one
-  pub within : moved_table placed.image placed.one + 4 * placed.image.slots ≤ board.base + length board.bytes
-  pub below_gates : board.base + length board.bytes ≤ 4294967040
-  pub values : (index : ℕ) → index < placed.image.slots → word_at false board.bytes (moved_table placed.image placed.one + 4 * index - board.base) ≡ slot_value placed.image placed.one index
+-- What `run` asks of the policy of this kind, with this seed: all turns up to the end of every process.
+abbrev pub asked_of : Kind → ℕ → Loading → Asked
+asked_of kind seed loading = record { kind = kind; state = left (game_with kind seed loading) }

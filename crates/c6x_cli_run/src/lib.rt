@@ -1,17 +1,10 @@
-//! `map` and `run` of one process: the plan and its module are fetched and placed on the board, then the report is put,
-//! and `run` runs the process to its end.
+//! `map` and `run` of a plan that was taken in: its processes are loaded, the report is put, and `run` gives them turns of
+//! a policy's choice up to the end of each.
 #![tactic(auto)]
 
-mod ending;
-mod lines;
-mod map;
-mod placed_process;
-mod placing;
-mod ready_process;
-mod run;
+mod mapping;
+mod running;
+mod starting;
 
-pub use map::put_map;
-pub use placed_process::PlacedProcess;
-pub use placing::{prepare_placed, prepare_process};
-pub use ready_process::ReadyProcess;
-pub use run::put_run;
+pub use mapping::put_map;
+pub use running::put_run;

@@ -1,7 +1,7 @@
-use Rattle.std.proofs.Common.{◌≡◌, ℕ, ◌≤◌, List, [], ◌∷◌, ◌++◌, refl, sym, ◌∙◌, ap, subst, arith}
-use Rattle.std.specs.Prelude.{Option, Some, Result, Ok, Err, IfErr, Contains}
+use Rattle.std.proofs.Common.{◌≡◌, ℕ, List, refl, sym, ◌∙◌, ap, subst, arith}
+use Rattle.std.specs.Prelude.{Result, Ok, Err, IfErr, Contains}
 use Rattle.std.proofs.lemmas.List.Elements.{Contains-append_left, Contains-append_right}
-use Rattle.c6x_spec.specs.Files.{Files, Rose}
+use Rattle.c6x_spec.specs.Files.{Files}
 use Rattle.c6x_ports.specs.Shelf.{Shelved, KeepsFiles}
 use Rattle.c6x_ports.proofs.Rises.{Rose-later}
 use Rattle.c6x_cli_steps.specs.declared.cause.Cause.{Cause}

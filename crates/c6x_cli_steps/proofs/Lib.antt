@@ -1,4 +1,5 @@
 pub mod Fetched
 pub mod Chains
+pub mod Policies
 pub mod Stages
 pub mod Performs

@@ -1,7 +1,9 @@
-use Rattle.std.proofs.Common.{◌≡◌, ◌≢◌, ℕ, ◌≤◌, ◌⊎◌, Bool, true, false, List, [], ◌∷◌, refl, sym, ◌∙◌, ap, subst, inl, inr, arith}
-use Rattle.std.specs.Prelude.{Option, None, Some, Result, Ok, Err, IsTrue}
+use Rattle.std.proofs.Common.{◌≡◌, ◌≢◌, ℕ, ◌≤◌, ◌⊎◌, Bool, true, false, List, [], refl, sym, ◌∙◌, ap, subst, inl, inr, arith}
+use Rattle.std.specs.Prelude.{Option, None, Some, Result, Ok, Err, IsTrue, set, slice_get}
 use Rattle.c6x_spec.specs.Files.{Files, Rose}
 use Rattle.c6x_spec.specs.Memory.{Memory}
+use Rattle.c6x_policy.specs.Chooser.{Chooser}
+use Rattle.c6x_policy.specs.declared.kind.Kind.{Kind}
 use Rattle.c6x_ports.specs.Shelf.{Shelved, KeepsFiles}
 use Rattle.c6x_ports.specs.Sink.{Taken}
 use Rattle.c6x_cli_steps.specs.declared.cause.Cause.{Cause}
@@ -10,18 +12,25 @@ use Rattle.c6x_cli_steps.specs.declared.prepare_error.PrepareError.{PrepareError
 use Rattle.c6x_cli_steps.specs.declared.prepare_error.PrepareError.TheVariants.{Because, ReadFault, Memory as NoMemory}
 use Rattle.c6x_cli_steps.specs.declared.commit_error.CommitError.{CommitError}
 use Rattle.c6x_cli_steps.specs.declared.commit_error.CommitError.TheVariants.{WriteFault, Memory as CommitMemory}
-use Rattle.c6x_cli_steps.specs.Exits.{Outcome, put_outcome, store_outcome, Carries, Reports, Leaves, IsStopped, IsDone, CountsFault, CutsShort, IsCut, Commits, LacksMemory, MeetsReadFault, EndsAs, Exits, NoFault, HasReported, IsResult, Completes}
+use Rattle.c6x_cli_steps.specs.Exits.{Outcome, put_outcome, asking_outcome, store_outcome, Carries, Reports, Leaves, IsStopped, IsDone, CountsFault, CutsShort, Commits, LacksMemory, EndsAs, Exits, NoFault, HasReported, IsResult, Completes}
 use Rattle.c6x_cli_steps.specs.Lines.{line_of, status_of, error_line, error_status, memory_line, write_fault_line}
 use Rattle.c6x_cli_steps.specs.Statuses.{Shows, Keeps, IsOfKind, IsCarriedOut, IsPrevented, Performs}
-use Rattle.c6x_cli_steps.specs.Stages.{Stage, PutsStages}
+use Rattle.c6x_cli_steps.specs.Policies.{Asked, asked_kind, first_of, Serves, HasAsked, MayHaveAsked, HasAskedKind, MayHaveAskedKind, KeepsPolicies}
+use Rattle.c6x_cli_steps.specs.Stages.{Stage, PutsStages, Delivers}
 use Rattle.c6x_cli_steps.specs.Steps.{Steps, Stops, HasCause, Prepares}
 use Rattle.c6x_cli_steps.specs.Stores.{HasStored, HasCutStore, KeepsWriteFaults}
 use Rattle.c6x_cli_steps.specs.World.{World, world}
+use Rattle.c6x_cli_steps.proofs.Policies.{set_same}
 use Rattle.c6x_cli_steps.proofs.Stages.{takes_nothing, took_nothing, cut_nothing}
 
--- where nothing was written, nothing is left
-pub leaves_nothing : (before after : World) → after.shelf.files ≡ before.shelf.files → after.out.bytes ≡ before.out.bytes → after.board ≡ before.board → Leaves [] before after
-leaves_nothing before after files out board = record { files = files; out = takes_nothing before.out.bytes after.out.bytes out; board = board }
+-- where nothing was written and no policy was asked, nothing is left
+pub leaves_nothing : (before after : World) → after.shelf.files ≡ before.shelf.files → after.out.bytes ≡ before.out.bytes → after.board ≡ before.board → after.policies ≡ before.policies → Leaves [] before after
+leaves_nothing before after files out board policies = record {
+  files = files;
+  out = takes_nothing before.out.bytes after.out.bytes out;
+  board = board;
+  policies = policies;
+}
 
 -- what no fault of the error output cut was reported
 has_reported : (line : List ℕ) (wanted status : ℕ) (before after : World) → NoFault before after → IsStopped line wanted [] status before after → HasReported line wanted [] status before after
@@ -59,17 +68,17 @@ exits_prevented (ReadFault name) steps status before after has rose stopped =
     inr (inl (record { name = name; fetched = has; counted = rose; stopped = stopped }))
 exits_prevented NoMemory steps status before after _ _ stopped = inr (inr stopped)
 
-exits_by : (steps : Files → Steps Outcome) (storing : Bool) (status : ℕ) (before after : World) → IsCarriedOut steps storing status before after ⊎ IsPrevented steps status before after → (told : Files) → before.shelf.files ≡ Some told → Exits (steps told) status before after
-exits_by steps storing status before after (inl carried) told tells = elim carried.ends [
+exits_by : (steps : Files → Steps Outcome) (storing : Bool) (asking : Option Kind) (status : ℕ) (before after : World) → IsCarriedOut steps storing asking status before after ⊎ IsPrevented steps status before after → (told : Files) → before.shelf.files ≡ Some told → Exits (steps told) status before after
+exits_by steps storing asking status before after (inl carried) told tells = elim carried.ends [
   | inl commits ↦ inl (subst (λ read. EndsAs read status before after) (sym (carried.given told tells)) commits)
   | inr memory ↦ inr (inr memory)
 ]
-exits_by steps storing status before after (inr prevented) told tells =
+exits_by steps storing asking status before after (inr prevented) told tells =
     exits_prevented prevented.error (steps told) status before after (prevented.given told tells) prevented.cause prevented.stopped
 
 -- a command that is performed ends as its steps say
-pub exits_performed : (steps : Files → Steps Outcome) (storing : Bool) (status : ℕ) (before after : World) (told : Files) → Performs steps storing status before after → before.shelf.files ≡ Some told → Exits (steps told) status before after
-exits_performed steps storing status before after told performs tells = exits_by steps storing status before after performs.way told tells
+pub exits_performed : (steps : Files → Steps Outcome) (storing : Bool) (asking : Option Kind) (status : ℕ) (before after : World) (told : Files) → Performs steps storing asking status before after → before.shelf.files ≡ Some told → Exits (steps told) status before after
+exits_performed steps storing asking status before after told performs tells = exits_by steps storing asking status before after performs.way told tells
 
 -- the statuses of errors
 pub record IsErrorStatus (status : ℕ) : Type 0 where
@@ -83,6 +92,9 @@ error_status_is (Because (Missing _)) = record { above = omega arith; below = om
 error_status_is (Because (Refused _)) = record { above = omega arith; below = omega arith; not_six = λ is. omega (arith, is) }
 error_status_is (ReadFault _) = record { above = omega arith; below = omega arith; not_six = λ is. omega (arith, is) }
 error_status_is NoMemory = record { above = omega arith; below = omega arith; not_six = λ is. omega (arith, is) }
+
+pub not_done : (error : PrepareError) → error_status error ≡ 0 → ⊥
+not_done error is = let range : IsErrorStatus (error_status error) = error_status_is error in omega (arith, is, range.above)
 
 -- what a status shows where an error's line was put
 pub shows_stopped : (error : PrepareError) (status : ℕ) (storing : Bool) (before after : World) → (error_status error ≡ 3 → Rose before.shelf.absences after.shelf.absences) → (error_status error ≡ 5 → Rose before.shelf.read_faults after.shelf.read_faults) → IsStopped (error_line error) (error_status error) [] status before after → Shows status storing before after
@@ -149,17 +161,17 @@ shows_committed outcome status storing before after kind (inr cut) = record {
   known = (omega (arith, cut.0), λ is. omega (arith, cut.0, is));
 }
 
-shows_by : (steps : Files → Steps Outcome) (storing : Bool) (status : ℕ) (before after : World) → IsCarriedOut steps storing status before after ⊎ IsPrevented steps status before after → Shows status storing before after
-shows_by steps storing status before after (inl carried) = elim carried.ends [
+shows_by : (steps : Files → Steps Outcome) (storing : Bool) (asking : Option Kind) (status : ℕ) (before after : World) → IsCarriedOut steps storing asking status before after ⊎ IsPrevented steps status before after → Shows status storing before after
+shows_by steps storing asking status before after (inl carried) = elim carried.ends [
   | inl commits ↦ shows_committed carried.outcome status storing before after carried.kind commits
   | inr memory ↦ shows_stopped NoMemory status storing before after (λ is. absurd (omega (arith, is))) (λ is. absurd (omega (arith, is))) memory
 ]
-shows_by steps storing status before after (inr prevented) =
+shows_by steps storing asking status before after (inr prevented) =
     shows_stopped prevented.error status storing before after (counted_missing prevented.error before.shelf after.shelf prevented.cause) (counted_fault prevented.error before.shelf after.shelf prevented.cause) prevented.stopped
 
 -- what the status of a command that is performed shows
-pub shows_performed : (steps : Files → Steps Outcome) (storing : Bool) (status : ℕ) (before after : World) → Performs steps storing status before after → Shows status storing before after
-shows_performed steps storing status before after performs = shows_by steps storing status before after performs.way
+pub shows_performed : (steps : Files → Steps Outcome) (storing : Bool) (asking : Option Kind) (status : ℕ) (before after : World) → Performs steps storing asking status before after → Shows status storing before after
+shows_performed steps storing asking status before after performs = shows_by steps storing asking status before after performs.way
 
 -- a command that stopped with nothing left keeps all
 pub keeps_stopped : (storing : Bool) (before after : World) → KeepsWriteFaults storing before.shelf after.shelf → Leaves [] before after → Keeps storing before after
@@ -204,19 +216,19 @@ keeps_cut false outcome before after none faults cut = record {
   write_faults = faults;
 }
 
-keeps_by : (steps : Files → Steps Outcome) (storing : Bool) (status : ℕ) (before after : World) → KeepsWriteFaults storing before.shelf after.shelf → IsCarriedOut steps storing status before after ⊎ IsPrevented steps status before after → Keeps storing before after
-keeps_by steps storing status before after faults (inl carried) = elim carried.ends [
+keeps_by : (steps : Files → Steps Outcome) (storing : Bool) (asking : Option Kind) (status : ℕ) (before after : World) → KeepsWriteFaults storing before.shelf after.shelf → IsCarriedOut steps storing asking status before after ⊎ IsPrevented steps status before after → Keeps storing before after
+keeps_by steps storing asking status before after faults (inl carried) = elim carried.ends [
   | inl commits ↦ elim commits [
     | inl done ↦ keeps_done storing carried.outcome before after carried.kind faults done.1
     | inr cut ↦ keeps_cut storing carried.outcome before after carried.kind faults cut.1.short
   ]
   | inr memory ↦ keeps_stopped storing before after faults memory.leaves
 ]
-keeps_by steps storing status before after faults (inr prevented) = keeps_stopped storing before after faults prevented.stopped.leaves
+keeps_by steps storing asking status before after faults (inr prevented) = keeps_stopped storing before after faults prevented.stopped.leaves
 
 -- what a command that is performed keeps
-pub keeps_performed : (steps : Files → Steps Outcome) (storing : Bool) (status : ℕ) (before after : World) → Performs steps storing status before after → Keeps storing before after
-keeps_performed steps storing status before after performs = keeps_by steps storing status before after performs.write_faults performs.way
+pub keeps_performed : (steps : Files → Steps Outcome) (storing : Bool) (asking : Option Kind) (status : ℕ) (before after : World) → Performs steps storing asking status before after → Keeps storing before after
+keeps_performed steps storing asking status before after performs = keeps_by steps storing asking status before after performs.write_faults performs.way
 
 -- a command that is performed found that its words have a reading
 no_usage : (error : PrepareError) (before after : Shelved) → HasCause error before after → error_status error ≡ 2 → ⊥
@@ -232,8 +244,8 @@ not_two line wanted status before after stopped other two = elim stopped.reports
   | inr cut ↦ omega (arith, cut.0, two)
 ]
 
-pub performed_reading : (steps : Files → Steps Outcome) (storing : Bool) (status : ℕ) (before after : World) → Performs steps storing status before after → status ≡ 2 → ⊥
-performed_reading steps storing status before after performs two = elim performs.way [
+pub performed_reading : (steps : Files → Steps Outcome) (storing : Bool) (asking : Option Kind) (status : ℕ) (before after : World) → Performs steps storing asking status before after → status ≡ 2 → ⊥
+performed_reading steps storing asking status before after performs two = elim performs.way [
   | inl carried ↦ elim carried.ends [
     | inl commits ↦ elim commits [ inl done ↦ omega (arith, done.0, two) | inr cut ↦ omega (arith, cut.0, two) ]
     | inr memory ↦ not_two memory_line 7 status before after memory (λ is. omega (arith, is)) two
@@ -242,15 +254,88 @@ performed_reading steps storing status before after performs two = elim performs
       not_two (error_line prevented.error) (error_status prevented.error) status before after prevented.stopped (no_usage prevented.error before.shelf after.shelf prevented.cause) two
 ]
 
--- stages that were put carry a command out that stores nothing
-pub done_of_stages : {A E : Type 0} (stages : List Stage) (out new_out : Taken) (board new_board : Memory) (value : A) (shelf : Shelved) (err : Taken) → PutsStages {A = A} {E = E} stages out new_out board new_board (Ok value) → IsDone (put_outcome stages) (world shelf out err board) (world shelf new_out err new_board)
-done_of_stages stages out new_out board new_board value shelf err p = record { out = p.all; err = refl; board = p.at; files = refl }
+-- what an asked policy is, by its kind
+asked_by_kind : (asked : Option Asked) (asking : Option Kind) (before after : List Chooser) → asked_kind asked ≡ asking → HasAsked asked before after → HasAskedKind asking before after
+asked_by_kind None asking before after is kept = subst (λ kind. HasAskedKind kind before after) is kept
+asked_by_kind (Some asked) asking before after is asks = subst (λ kind. HasAskedKind kind before after) is (asked.state, asks)
+
+cut_by_kind : (asked : Option Asked) (asking : Option Kind) (before after : List Chooser) → asked_kind asked ≡ asking → MayHaveAsked asked before after → MayHaveAskedKind asking before after
+cut_by_kind None asking before after is kept = subst (λ kind. MayHaveAskedKind kind before after) is kept
+cut_by_kind (Some asked) asking before after is changes = subst (λ kind. MayHaveAskedKind kind before after) is (inr changes)
+
+unasked : (asking : Option Kind) (before after : List Chooser) → after ≡ before → MayHaveAskedKind asking before after
+unasked None before after kept = kept
+unasked (Some kind) before after kept = inl kept
+
+-- a command that an error stopped has asked no policy
+pub policies_stopped : (line : List ℕ) (wanted status : ℕ) (asking : Option Kind) (before after : World) → (wanted ≡ 0 → ⊥) → IsStopped line wanted [] status before after → KeepsPolicies status asking before.policies after.policies
+policies_stopped line wanted status asking before after other stopped = record {
+  done = λ zero. elim stopped.reports [
+    | inl told ↦ absurd (other (sym told.0 ∙ zero))
+    | inr cut ↦ absurd (omega (arith, cut.0, zero))
+  ];
+  cut = λ _. unasked asking before.policies after.policies stopped.leaves.policies;
+  stopped = λ _ _. stopped.leaves.policies;
+}
+
+policies_committed : (outcome : Outcome) (asking : Option Kind) (status : ℕ) (before after : World) → asked_kind outcome.asked ≡ asking → Commits outcome status before after → KeepsPolicies status asking before.policies after.policies
+policies_committed outcome asking status before after is (inl done) = record {
+  done = λ _. asked_by_kind outcome.asked asking before.policies after.policies is done.1.policies;
+  cut = λ six. absurd (omega (arith, done.0, six));
+  stopped = λ other _. absurd (other done.0);
+}
+policies_committed outcome asking status before after is (inr cut) = record {
+  done = λ zero. absurd (omega (arith, cut.0, zero));
+  cut = λ _. cut_by_kind outcome.asked asking before.policies after.policies is cut.1.short.policies;
+  stopped = λ _ other. absurd (other cut.0);
+}
+
+-- what a command that is performed leaves of the policies
+pub policies_performed : (steps : Files → Steps Outcome) (storing : Bool) (asking : Option Kind) (status : ℕ) (before after : World) → Performs steps storing asking status before after → KeepsPolicies status asking before.policies after.policies
+policies_performed steps storing asking status before after performs = elim performs.way [
+  | inl carried ↦ elim carried.ends [
+    | inl commits ↦ policies_committed carried.outcome asking status before after carried.asks commits
+    | inr memory ↦ policies_stopped memory_line 7 status asking before after (λ is. omega (arith, is)) memory
+  ]
+  | inr prevented ↦
+      policies_stopped (error_line prevented.error) (error_status prevented.error) status asking before after (not_done prevented.error) prevented.stopped
+]
+
+-- stages that were put carry a command out that stores nothing and asks no policy
+pub done_of_stages : {A E : Type 0} (stages : List Stage) (out new_out : Taken) (board new_board : Memory) (value : A) (shelf : Shelved) (err : Taken) (policies : List Chooser) → PutsStages {A = A} {E = E} stages out new_out board new_board (Ok value) → IsDone (put_outcome stages) (world shelf out err board policies) (world shelf new_out err new_board policies)
+done_of_stages stages out new_out board new_board value shelf err policies p =
+    record { out = p.all; err = refl; board = p.at; files = refl; policies = refl }
 
 -- stages of which one was cut cut it short
-pub carries_cut : {A B E : Type 0} (stages : List Stage) (out new_out : Taken) (board new_board : Memory) (error : E) (result : Result B CommitError) (shelf : Shelved) (err : Taken) → result ≡ Err WriteFault → PutsStages {A = A} {E = E} stages out new_out board new_board (Err error) → Carries (put_outcome stages) result (world shelf out err board) (world shelf new_out err new_board)
-carries_cut stages out new_out board new_board error result shelf err is p =
-    subst (λ r. Carries (put_outcome stages) r (world shelf out err board) (world shelf new_out err new_board)) (sym is)
-    (record { out = p.cut; files = refl; counts = p.failed })
+pub carries_cut : {A B E : Type 0} (stages : List Stage) (out new_out : Taken) (board new_board : Memory) (error : E) (result : Result B CommitError) (shelf : Shelved) (err : Taken) (policies : List Chooser) → result ≡ Err WriteFault → PutsStages {A = A} {E = E} stages out new_out board new_board (Err error) → Carries (put_outcome stages) result (world shelf out err board policies) (world shelf new_out err new_board policies)
+carries_cut stages out new_out board new_board error result shelf err policies is p =
+    subst (λ r. Carries (put_outcome stages) r (world shelf out err board policies) (world shelf new_out err new_board policies)) (sym is)
+    (record { out = p.cut; files = refl; counts = p.failed; policies = refl })
+
+-- stages that a policy was asked for carry out a command that asks it
+pub carries_asking : {A : Type 0} (stages : List Stage) (asked : Asked) (out new_out : Taken) (board new_board : Memory) (policies : List Chooser) (place : ℕ) (was now : Chooser) (result : Result A CommitError) (shelf : Shelved) (err : Taken) → Delivers stages out new_out board new_board result → Serves asked was now result → first_of asked.kind policies ≡ Some place → slice_get policies place ≡ Some was → Carries (asking_outcome stages asked) result (world shelf out err board policies) (world shelf new_out err new_board (set policies place now))
+carries_asking stages asked out new_out board new_board policies place was now (Ok _) shelf err d s found there = record {
+  out = d.all;
+  err = refl;
+  board = d.at;
+  files = refl;
+  policies = record {
+    changes = record { place = place; was = was; now = now; found = found; there = there; others = refl; kind = s.kind };
+    answers = s.answers;
+  };
+}
+carries_asking stages asked out new_out board new_board policies place was now (Err WriteFault) shelf err d s found there = record {
+  out = d.cut refl;
+  files = refl;
+  counts = d.failed refl;
+  policies = record { place = place; was = was; now = now; found = found; there = there; others = refl; kind = s.kind };
+}
+carries_asking stages asked out new_out board new_board policies place was now (Err CommitMemory) shelf err d s found there = record {
+  files = refl;
+  out = takes_nothing out.bytes new_out.bytes (d.unwritten refl).0;
+  board = (d.unwritten refl).1;
+  policies = ap (set policies place) (s.unasked refl) ∙ set_same policies place was there;
+}
 
 -- what a call gives with each error
 pub cut_of : (A : Type 0) (outcome : Outcome) (error : CommitError) (before after : World) → error ≡ WriteFault → Carries {A = A} outcome (Err error) before after → CutsShort outcome before after
@@ -260,13 +345,13 @@ pub left_of : (A : Type 0) (outcome : Outcome) (error : CommitError) (before aft
 left_of A outcome error before after is carries = subst (λ e. Carries {A = A} outcome (Err e) before after) is carries
 
 -- a fault of the output or of a store is counted whatever the error output took
-counts_beside : (stored : Option (List ℕ × List ℕ)) (shelf new_shelf : Shelved) (out new_out err new_err : Taken) (board new_board : Memory) → CountsFault stored (world shelf out err board) (world new_shelf new_out err new_board) → CountsFault stored (world shelf out err board) (world new_shelf new_out new_err new_board)
-counts_beside None shelf new_shelf out new_out err new_err board new_board counts = counts
-counts_beside (Some file) shelf new_shelf out new_out err new_err board new_board counts = counts
+counts_beside : (stored : Option (List ℕ × List ℕ)) (shelf new_shelf : Shelved) (out new_out err new_err : Taken) (board new_board : Memory) (policies left : List Chooser) → CountsFault stored (world shelf out err board policies) (world new_shelf new_out err new_board left) → CountsFault stored (world shelf out err board policies) (world new_shelf new_out new_err new_board left)
+counts_beside None shelf new_shelf out new_out err new_err board new_board policies left counts = counts
+counts_beside (Some file) shelf new_shelf out new_out err new_err board new_board policies left counts = counts
 
 -- a fault that cut a command is reported
-pub cut_reported : (outcome : Outcome) (status : ℕ) (shelf new_shelf : Shelved) (out new_out err new_err : Taken) (board new_board : Memory) → CutsShort outcome (world shelf out err board) (world new_shelf new_out err new_board) → Reports write_fault_line 6 status err new_err → Commits outcome status (world shelf out err board) (world new_shelf new_out new_err new_board)
-cut_reported outcome status shelf new_shelf out new_out err new_err board new_board cut reports =
+pub cut_reported : (outcome : Outcome) (status : ℕ) (shelf new_shelf : Shelved) (out new_out err new_err : Taken) (board new_board : Memory) (policies left : List Chooser) → CutsShort outcome (world shelf out err board policies) (world new_shelf new_out err new_board left) → Reports write_fault_line 6 status err new_err → Commits outcome status (world shelf out err board policies) (world new_shelf new_out new_err new_board left)
+cut_reported outcome status shelf new_shelf out new_out err new_err board new_board policies left cut reports =
     let six : status ≡ 6 = elim reports [ inl told ↦ told.0 | inr front ↦ front.0 ] in
     inr (
       six,
@@ -274,50 +359,60 @@ cut_reported outcome status shelf new_shelf out new_out err new_err board new_bo
         short = record {
           out = cut.out;
           files = cut.files;
-          counts = counts_beside outcome.stored shelf new_shelf out new_out err new_err board new_board cut.counts;
+          counts = counts_beside outcome.stored shelf new_shelf out new_out err new_err board new_board policies left cut.counts;
+          policies = cut.policies;
         };
         reports = reports;
       },
     )
 
 -- so is want of memory
-pub memory_reported : (status : ℕ) (shelf new_shelf : Shelved) (out new_out err new_err : Taken) (board new_board : Memory) → Leaves [] (world shelf out err board) (world new_shelf new_out err new_board) → Reports memory_line 7 status err new_err → LacksMemory status (world shelf out err board) (world new_shelf new_out new_err new_board)
-memory_reported status shelf new_shelf out new_out err new_err board new_board leaves reports =
-    record { leaves = record { files = leaves.files; out = leaves.out; board = leaves.board }; reports = reports }
+pub memory_reported : (status : ℕ) (shelf new_shelf : Shelved) (out new_out err new_err : Taken) (board new_board : Memory) (policies left : List Chooser) → Leaves [] (world shelf out err board policies) (world new_shelf new_out err new_board left) → Reports memory_line 7 status err new_err → LacksMemory status (world shelf out err board policies) (world new_shelf new_out new_err new_board left)
+memory_reported status shelf new_shelf out new_out err new_err board new_board policies left leaves reports = record {
+  leaves = record { files = leaves.files; out = leaves.out; board = leaves.board; policies = leaves.policies };
+  reports = reports;
+}
 
-counts_earlier : (stored : Option (List ℕ × List ℕ)) (shelf amid : Shelved) (out err : Taken) (board : Memory) (after : World) → KeepsFiles shelf amid → CountsFault stored (world amid out err board) after → CountsFault stored (world shelf out err board) after
-counts_earlier None shelf amid out err board after keeps counts = counts
-counts_earlier (Some file) shelf amid out err board after keeps counts =
+counts_earlier : (stored : Option (List ℕ × List ℕ)) (shelf amid : Shelved) (out err : Taken) (board : Memory) (policies : List Chooser) (after : World) → KeepsFiles shelf amid → CountsFault stored (world amid out err board policies) after → CountsFault stored (world shelf out err board policies) after
+counts_earlier None shelf amid out err board policies after keeps counts = counts
+counts_earlier (Some file) shelf amid out err board policies after keeps counts =
     subst (λ count. Rose count after.shelf.write_faults) keeps.write_faults counts
 
 -- what is carried out behind steps that keep the files is carried out from their start on
-commits_earlier : (outcome : Outcome) (status : ℕ) (shelf amid : Shelved) (out err : Taken) (board : Memory) (after : World) → KeepsFiles shelf amid → Commits outcome status (world amid out err board) after → Commits outcome status (world shelf out err board) after
-commits_earlier outcome status shelf amid out err board after keeps (inl done) = inl (
+commits_earlier : (outcome : Outcome) (status : ℕ) (shelf amid : Shelved) (out err : Taken) (board : Memory) (policies : List Chooser) (after : World) → KeepsFiles shelf amid → Commits outcome status (world amid out err board policies) after → Commits outcome status (world shelf out err board policies) after
+commits_earlier outcome status shelf amid out err board policies after keeps (inl done) = inl (
   done.0,
   record {
     out = done.1.out;
     err = done.1.err;
     board = done.1.board;
     files = subst (λ files. HasStored outcome.stored files after.shelf.files) keeps.files done.1.files;
+    policies = done.1.policies;
   },
 )
-commits_earlier outcome status shelf amid out err board after keeps (inr cut) = inr (
+commits_earlier outcome status shelf amid out err board policies after keeps (inr cut) = inr (
   cut.0,
   record {
     short = record {
       out = cut.1.short.out;
       files = subst (λ files. HasCutStore outcome.stored files after.shelf.files) keeps.files cut.1.short.files;
-      counts = counts_earlier outcome.stored shelf amid out err board after keeps cut.1.short.counts;
+      counts = counts_earlier outcome.stored shelf amid out err board policies after keeps cut.1.short.counts;
+      policies = cut.1.short.policies;
     };
     reports = cut.1.reports;
   },
 )
 
-ends_earlier : (outcome : Outcome) (status : ℕ) (shelf amid : Shelved) (out err : Taken) (board : Memory) (after : World) → KeepsFiles shelf amid → Commits outcome status (world amid out err board) after ⊎ LacksMemory status (world amid out err board) after → Commits outcome status (world shelf out err board) after ⊎ LacksMemory status (world shelf out err board) after
-ends_earlier outcome status shelf amid out err board after keeps (inl commits) =
-    inl (commits_earlier outcome status shelf amid out err board after keeps commits)
-ends_earlier outcome status shelf amid out err board after keeps (inr memory) = inr (record {
-  leaves = record { files = memory.leaves.files ∙ keeps.files; out = memory.leaves.out; board = memory.leaves.board };
+ends_earlier : (outcome : Outcome) (status : ℕ) (shelf amid : Shelved) (out err : Taken) (board : Memory) (policies : List Chooser) (after : World) → KeepsFiles shelf amid → Commits outcome status (world amid out err board policies) after ⊎ LacksMemory status (world amid out err board policies) after → Commits outcome status (world shelf out err board policies) after ⊎ LacksMemory status (world shelf out err board policies) after
+ends_earlier outcome status shelf amid out err board policies after keeps (inl commits) =
+    inl (commits_earlier outcome status shelf amid out err board policies after keeps commits)
+ends_earlier outcome status shelf amid out err board policies after keeps (inr memory) = inr (record {
+  leaves = record {
+    files = memory.leaves.files ∙ keeps.files;
+    out = memory.leaves.out;
+    board = memory.leaves.board;
+    policies = memory.leaves.policies;
+  };
   reports = memory.reports;
 })
 
@@ -330,26 +425,27 @@ faults_kept true before after keeps = omega (arith, keeps.write_faults)
 faults_kept false before after keeps = keeps.write_faults
 
 -- a command that was prepared and carried out was performed
-pub performs_committed : {A : Type 0} (view : A → Outcome) (steps : Files → Steps Outcome) (storing : Bool) (status : ℕ) (shelf amid : Shelved) (out err : Taken) (board : Memory) (after : World) (value : A) → Prepares view steps shelf amid (Ok value) → IsOfKind storing board (view value) → KeepsWriteFaults storing amid after.shelf → Commits (view value) status (world amid out err board) after ⊎ LacksMemory status (world amid out err board) after → Performs steps storing status (world shelf out err board) after
-performs_committed view steps storing status shelf amid out err board after value prepares kind faults ends = record {
+pub performs_committed : {A : Type 0} (view : A → Outcome) (steps : Files → Steps Outcome) (storing : Bool) (asking : Option Kind) (status : ℕ) (shelf amid : Shelved) (out err : Taken) (board : Memory) (policies : List Chooser) (after : World) (value : A) → Prepares view steps shelf amid (Ok value) → IsOfKind storing board (view value) → asked_kind (view value).asked ≡ asking → KeepsWriteFaults storing amid after.shelf → Commits (view value) status (world amid out err board policies) after ⊎ LacksMemory status (world amid out err board policies) after → Performs steps storing asking status (world shelf out err board policies) after
+performs_committed view steps storing asking status shelf amid out err board policies after value prepares kind asks faults ends = record {
   way = inl (record {
     outcome = view value;
     given = prepares.gives;
     kind = kind;
-    ends = ends_earlier (view value) status shelf amid out err board after prepares.keeps ends;
+    asks = asks;
+    ends = ends_earlier (view value) status shelf amid out err board policies after prepares.keeps ends;
   });
   write_faults = faults_earlier storing shelf amid after.shelf prepares.keeps faults;
 }
 
 -- a command that an error stopped, which was reported, was performed
-pub performs_prevented : {A : Type 0} (view : A → Outcome) (steps : Files → Steps Outcome) (storing : Bool) (status : ℕ) (shelf amid : Shelved) (out err new_err : Taken) (board : Memory) (error : PrepareError) → Prepares {A = A} view steps shelf amid (Err error) → Reports (error_line error) (error_status error) status err new_err → Performs steps storing status (world shelf out err board) (world amid out new_err board)
-performs_prevented view steps storing status shelf amid out err new_err board error prepares reports = record {
+pub performs_prevented : {A : Type 0} (view : A → Outcome) (steps : Files → Steps Outcome) (storing : Bool) (asking : Option Kind) (status : ℕ) (shelf amid : Shelved) (out err new_err : Taken) (board : Memory) (policies : List Chooser) (error : PrepareError) → Prepares {A = A} view steps shelf amid (Err error) → Reports (error_line error) (error_status error) status err new_err → Performs steps storing asking status (world shelf out err board policies) (world amid out new_err board policies)
+performs_prevented view steps storing asking status shelf amid out err new_err board policies error prepares reports = record {
   way = inr (record {
     error = error;
     given = prepares.gives;
     cause = prepares.cause;
     stopped = record {
-      leaves = leaves_nothing (world shelf out err board) (world amid out new_err board) prepares.keeps.files refl refl;
+      leaves = leaves_nothing (world shelf out err board policies) (world amid out new_err board policies) prepares.keeps.files refl refl refl;
       reports = reports;
     };
   });

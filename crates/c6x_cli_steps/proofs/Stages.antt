@@ -1,6 +1,5 @@
-use Rattle.std.proofs.Common.{◌≡◌, ℕ, ◌≤◌, List, [], ◌∷◌, ◌++◌, zero, suc, length, refl, sym, ◌∙◌, ap, subst, append-nil, inl, inr, arith}
+use Rattle.std.proofs.Common.{◌≡◌, ℕ, List, [], ◌∷◌, ◌++◌, zero, suc, refl, sym, ◌∙◌, ap, subst, append-nil, inl, inr, arith}
 use Rattle.std.specs.Prelude.{Option, None, Some, take, Result, Ok, Err}
-use Rattle.c6x_spec.specs.Files.{Rose}
 use Rattle.c6x_spec.specs.Memory.{Memory}
 use Rattle.c6x_spec.specs.Sinks.{Takes, TakesFront}
 use Rattle.c6x_ports.specs.Sink.{Taken, Puts}

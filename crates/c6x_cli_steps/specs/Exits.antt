@@ -1,5 +1,5 @@
 use Rattle.std.specs.Prelude.{◌≡◌, ℕ, ◌⊎◌, List, [], ◌∷◌, Option, None, Some, Result, Ok, Err, Contains}
-use Rattle.c6x_spec.specs.Files.{Files, Rose}
+use Rattle.c6x_spec.specs.Files.{Rose}
 use Rattle.c6x_spec.specs.Memory.{Memory}
 use Rattle.c6x_spec.specs.Sinks.{Takes, TakesFront}
 use Rattle.c6x_ports.specs.Sink.{Taken}
@@ -7,23 +7,30 @@ use Rattle.c6x_cli_steps.specs.declared.cause.Cause.{Cause}
 use Rattle.c6x_cli_steps.specs.declared.commit_error.CommitError.{CommitError}
 use Rattle.c6x_cli_steps.specs.declared.commit_error.CommitError.TheVariants.{WriteFault, Memory as NoMemory}
 use Rattle.c6x_cli_steps.specs.Lines.{line_of, status_of, read_fault_line, write_fault_line, memory_line}
+use Rattle.c6x_cli_steps.specs.Policies.{Asked, HasAsked, MayHaveAsked}
 use Rattle.c6x_cli_steps.specs.Stages.{Stage, text_of, board_of, CutsAt}
 use Rattle.c6x_cli_steps.specs.Steps.{Steps}
 use Rattle.c6x_cli_steps.specs.Stores.{HasStored, HasCutStore}
 use Rattle.c6x_cli_steps.specs.World.{World}
 
--- What a command that is carried out does: the stages that it puts, and what it stores.
+-- What a command that is carried out does: the stages that it puts, what it stores, and what it asks of the policies.
 pub record Outcome : Type 0 where
   pub stages : List Stage
   pub stored : Option (List ℕ × List ℕ)
+  pub asked : Option Asked
 
 -- A command that writes to the board and the output, and stores nothing.
 abbrev pub put_outcome : List Stage → Outcome
-put_outcome stages = record { stages = stages; stored = None }
+put_outcome stages = record { stages = stages; stored = None; asked = None }
+
+-- The same of a command that asks a policy.
+abbrev pub asking_outcome : List Stage → Asked → Outcome
+asking_outcome stages asked = record { stages = stages; stored = None; asked = Some asked }
 
 -- A command that stores puts nothing, and leaves the board as it is.
 abbrev pub store_outcome : List ℕ → List ℕ → Memory → Outcome
-store_outcome name bytes board = record { stages = record { text = []; board = board } ∷ []; stored = Some (name, bytes) }
+store_outcome name bytes board =
+    record { stages = record { text = []; board = board } ∷ []; stored = Some (name, bytes); asked = None }
 
 -- A line was put on the error output: it was taken whole and the status is the one wanted, or a fault cut it and the
 -- status is 6.
@@ -32,24 +39,26 @@ Reports line wanted status before after =
     ((status ≡ wanted) × Takes line before.bytes after.bytes)
     ⊎ ((status ≡ 6) × TakesFront line before.bytes after.bytes × Rose before.faults after.faults)
 
--- A command stopped behind these stages, with nothing stored.
+-- A command stopped behind these stages, with nothing stored and no policy asked.
 pub record Leaves (stages : List Stage) (before after : World) : Type 0 where
   pub files : after.shelf.files ≡ before.shelf.files
   pub out : Takes (text_of stages) before.out.bytes after.out.bytes
   pub board : after.board ≡ board_of stages before.board
+  pub policies : after.policies ≡ before.policies
 
 -- It did so, and reported the line.
 pub record IsStopped (line : List ℕ) (wanted : ℕ) (stages : List Stage) (status : ℕ) (before after : World) : Type 0 where
   pub leaves : Leaves stages before after
   pub reports : Reports line wanted status before.err after.err
 
--- All was done: the stages on the output, nothing on the error output, the board as at the last stage, and the store
--- alone on the shelf.
+-- All was done: the stages on the output, nothing on the error output, the board as at the last stage, the store alone on
+-- the shelf, and of the policies none asked but the one.
 pub record IsDone (outcome : Outcome) (before after : World) : Type 0 where
   pub out : Takes (text_of outcome.stages) before.out.bytes after.out.bytes
   pub err : after.err.bytes ≡ before.err.bytes
   pub board : after.board ≡ board_of outcome.stages before.board
   pub files : HasStored outcome.stored before.shelf.files after.shelf.files
+  pub policies : HasAsked outcome.asked before.policies after.policies
 
 -- Whose fault was counted: the shelf's, where the command stores, and else the output's.
 abbrev pub CountsFault : Option (List ℕ × List ℕ) → World → World → Type 0
@@ -60,6 +69,7 @@ CountsFault (Some file) before after = Rose before.shelf.write_faults after.shel
 pub record CutsShort (outcome : Outcome) (before after : World) : Type 0 where
   pub out : CutsAt outcome.stages before.out.bytes after.out.bytes after.board
   pub files : HasCutStore outcome.stored before.shelf.files after.shelf.files
+  pub policies : MayHaveAsked outcome.asked before.policies after.policies
   pub counts : CountsFault outcome.stored before after
 
 -- It did so, and the fault was reported.
@@ -113,7 +123,7 @@ pub record HasReported (line : List ℕ) (wanted : ℕ) (stages : List Stage) (s
   pub leaves : Leaves stages before after
   pub taken : Takes line before.err.bytes after.err.bytes
 
--- What words, files and board come to where no device fails, in status, output, error output, board and files.
+-- What words, files and board come to where no device fails, in status, output, error output, board, files and policies.
 abbrev pub IsResult : Result Outcome Cause → ℕ → World → World → Type 0
 IsResult (Ok outcome) status before after = (status ≡ 0) × IsDone outcome before after
 IsResult (Err cause) status before after = HasReported (line_of cause) (status_of cause) [] status before after

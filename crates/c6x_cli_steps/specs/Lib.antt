@@ -1,4 +1,5 @@
 pub mod World
+pub mod Policies
 pub mod Stages
 pub mod Steps
 pub mod Lines

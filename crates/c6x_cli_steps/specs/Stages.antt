@@ -1,8 +1,10 @@
-use Rattle.std.specs.Prelude.{◌≡◌, ℕ, ◌≤◌, ◌⊎◌, List, [], ◌∷◌, ◌++◌, Option, Result, OnOk, OnErr}
+use Rattle.std.specs.Prelude.{◌≡◌, ℕ, ◌≤◌, ◌⊎◌, List, [], ◌∷◌, ◌++◌, Option, Result, Err, OnOk, OnErr}
 use Rattle.c6x_spec.specs.Files.{Rose}
 use Rattle.c6x_spec.specs.Memory.{Memory}
 use Rattle.c6x_spec.specs.Sinks.{Takes, TakesFront}
 use Rattle.c6x_ports.specs.Sink.{Taken}
+use Rattle.c6x_cli_steps.specs.declared.commit_error.CommitError.{CommitError}
+use Rattle.c6x_cli_steps.specs.declared.commit_error.CommitError.TheVariants.{WriteFault, Memory as NoMemory}
 
 -- A text that is put on the output while the board is so. Stages are listed newest first.
 pub record Stage : Type 0 where
@@ -39,3 +41,12 @@ pub record PutsStages {A E : Type 0} (stages : List Stage) (out new_out : Taken)
   pub cut : OnErr result (CutsAt stages out.bytes new_out.bytes board)
   pub failed : OnErr result (Rose out.faults new_out.faults)
   pub kept : out.faults ≤ new_out.faults
+
+-- What a call does that takes all of its memory before it puts stages: it puts them, or memory ran out and nothing was
+-- written.
+pub record Delivers {A : Type 0} (stages : List Stage) (out new_out : Taken) (first board : Memory) (result : Result A CommitError) : Type 0 where
+  pub all : OnOk result (Takes (text_of stages) out.bytes new_out.bytes)
+  pub at : OnOk result (board ≡ board_of stages first)
+  pub cut : result ≡ Err WriteFault → CutsAt stages out.bytes new_out.bytes board
+  pub failed : result ≡ Err WriteFault → Rose out.faults new_out.faults
+  pub unwritten : result ≡ Err NoMemory → (new_out.bytes ≡ out.bytes) × (board ≡ first)

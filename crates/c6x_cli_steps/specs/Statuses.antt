@@ -1,10 +1,12 @@
 use Rattle.std.specs.Prelude.{◌≡◌, ◌≢◌, ◌≤◌, ℕ, ◌⊎◌, Bool, true, false, IsTrue, List, [], Option, None, Some, Ok}
 use Rattle.c6x_spec.specs.Files.{Files, Rose}
 use Rattle.c6x_spec.specs.Memory.{Memory}
-use Rattle.c6x_spec.specs.Sinks.{Takes, TakesFront}
+use Rattle.c6x_spec.specs.Sinks.{TakesFront}
+use Rattle.c6x_policy.specs.declared.kind.Kind.{Kind}
 use Rattle.c6x_cli_steps.specs.declared.prepare_error.PrepareError.{PrepareError}
 use Rattle.c6x_cli_steps.specs.Exits.{Outcome, Commits, LacksMemory, Leaves, HasReported, IsStopped, Reports, store_outcome}
 use Rattle.c6x_cli_steps.specs.Lines.{error_line, error_status, write_fault_line}
+use Rattle.c6x_cli_steps.specs.Policies.{asked_kind}
 use Rattle.c6x_cli_steps.specs.Steps.{Steps, Stops, HasCause}
 use Rattle.c6x_cli_steps.specs.Stores.{KeepsWriteFaults}
 use Rattle.c6x_cli_steps.specs.World.{World}
@@ -37,10 +39,11 @@ IsOfKind true board outcome = (name : List ℕ) × ((bytes : List ℕ) × (outco
 IsOfKind false board outcome = outcome.stored ≡ None
 
 -- A command was prepared, and carried out to this outcome, or memory ran out.
-pub record IsCarriedOut (steps : Files → Steps Outcome) (storing : Bool) (status : ℕ) (before after : World) : Type 0 where
+pub record IsCarriedOut (steps : Files → Steps Outcome) (storing : Bool) (asking : Option Kind) (status : ℕ) (before after : World) : Type 0 where
   pub outcome : Outcome
   pub given : (told : Files) → before.shelf.files ≡ Some told → (steps told).result ≡ Ok outcome
   pub kind : IsOfKind storing before.board outcome
+  pub asks : asked_kind outcome.asked ≡ asking
   pub ends : Commits outcome status before after ⊎ LacksMemory status before after
 
 -- An error stopped it before its first write.
@@ -51,6 +54,6 @@ pub record IsPrevented (steps : Files → Steps Outcome) (status : ℕ) (before 
   pub stopped : IsStopped (error_line error) (error_status error) [] status before after
 
 -- A command whose words have a reading was carried out, or an error prevented it.
-pub record Performs (steps : Files → Steps Outcome) (storing : Bool) (status : ℕ) (before after : World) : Type 0 where
-  pub way : IsCarriedOut steps storing status before after ⊎ IsPrevented steps status before after
+pub record Performs (steps : Files → Steps Outcome) (storing : Bool) (asking : Option Kind) (status : ℕ) (before after : World) : Type 0 where
+  pub way : IsCarriedOut steps storing asking status before after ⊎ IsPrevented steps status before after
   pub write_faults : KeepsWriteFaults storing before.shelf after.shelf

@@ -1,5 +1,5 @@
 use Rattle.std.specs.Prelude.{◌≡◌, ◌≤◌, ℕ, Bool, true, false, List, Option, None, Some}
-use Rattle.c6x_spec.specs.Files.{Files, Rose, stored}
+use Rattle.c6x_spec.specs.Files.{Files, stored}
 use Rattle.c6x_ports.specs.Others.{KeepsOthers}
 use Rattle.c6x_ports.specs.Shelf.{Shelved}
 

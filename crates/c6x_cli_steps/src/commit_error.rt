@@ -1,4 +1,5 @@
 use c6x_ports::SinkError;
+use std::alloc::AllocError;
 
 /// Why a command that nothing stopped before its first write was not carried out to its end.
 #[derive(Debug, Drop)]
@@ -17,5 +18,16 @@ impl From<SinkError> for CommitError {
 
     fn from(_error: SinkError) -> CommitError {
         CommitError::WriteFault
+    }
+}
+
+impl From<AllocError> for CommitError {
+    ghost use Rattle.std.specs.Prelude.{◌≡◌};
+    ghost use Rattle.c6x_cli_steps.specs.declared.commit_error.CommitError.TheVariants.{Memory as memory};
+
+    ghost from_gives = { λ _ e. e ≡ memory };
+
+    fn from(_error: AllocError) -> CommitError {
+        CommitError::Memory
     }
 }

@@ -1,2 +1,2 @@
 mod Tells
-mod Stands
+pub mod Stands

@@ -1,9 +1,5 @@
-use Rattle.std.proofs.Common.{rules}
-use Rattle.c6x_cli_steps.proofs.Performs.{done_of_stages, carries_cut}
+use Rattle.c6x_cli.proofs.Served.{carries_delivered}
 use Rattle.c6x_cli.proofs.commit.commit_map.Goals as goal
 
-pub returns-in_err-put_map : goal.returns-in_err-put_map
-returns-in_err-put_map g c = λ shelf err. carries_cut _ _ _ _ _ _ _ shelf err (search rules) c.in_err-put_map.ensures
-
 pub returns : goal.returns
-returns g c = λ shelf err. done_of_stages _ _ _ _ _ _ shelf err c.in_ok-put_map.ensures
+returns g c = λ shelf err policies. carries_delivered _ _ _ _ _ _ shelf err policies c.put_map.ensures

@@ -7,12 +7,12 @@ returns-in-Ok-clause-ends g c = inl (inl (refl, c.in-Ok.ensures.carries (g.E.Sin
 
 pub returns-in-Err-WriteFault-clause-ends : goal.returns-in-Err-WriteFault-clause-ends
 returns-in-Err-WriteFault-clause-ends g c =
-    inl (cut_reported _ _ _ _ _ _ _ _ _ _
+    inl (cut_reported _ _ _ _ _ _ _ _ _ _ _ _
     (cut_of (Unit {0}) _ _ _ _ c.in-Err-WriteFault.field-0-is (c.in-Err-WriteFault.ensures.carries (g.E.Sink.seen c.args.err.now)))
     c.report_write_fault.ensures)
 
 pub returns-in-Err-Memory-clause-ends : goal.returns-in-Err-Memory-clause-ends
 returns-in-Err-Memory-clause-ends g c =
-    inr (memory_reported _ _ _ _ _ _ _ _ _
+    inr (memory_reported _ _ _ _ _ _ _ _ _ _ _
     (left_of (Unit {0}) _ _ _ _ c.in-Err-Memory.field-0-is (c.in-Err-Memory.ensures.carries (g.E.Sink.seen c.args.err.now)))
     c.report_error.ensures)

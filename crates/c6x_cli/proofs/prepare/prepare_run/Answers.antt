@@ -3,13 +3,13 @@ use Rattle.c6x_cli.specs.Meaning.{outcome_of, request_steps}
 use Rattle.c6x_cli_steps.proofs.Chains.{prepares_first, prepares_then, prepares_own}
 use Rattle.c6x_cli.proofs.prepare.prepare_run.Goals as goal
 
-pub returns-in_err-ready-clause-prepares : goal.returns-in_err-ready-clause-prepares
+pub returns-in_err-loading-clause-prepares : goal.returns-in_err-loading-clause-prepares
 unfolding request_steps
-returns-in_err-ready-clause-prepares g c =
-    prepares_first (λ ready. ready.placed) (λ prepared. outcome_of prepared c.args.board.now) _ _ _ _ _ _ (search rules) c.in_err-ready.ensures.prepares
+returns-in_err-loading-clause-prepares g c =
+    prepares_first (λ loading. loading) (λ prepared. outcome_of prepared c.args.board.now) _ _ _ _ _ _ (search rules) c.in_err-loading.ensures.prepares
 
 pub returns-clause-prepares : goal.returns-clause-prepares
 unfolding request_steps
 returns-clause-prepares g c =
-    prepares_then (λ ready. ready.placed) (λ prepared. outcome_of prepared c.args.board.now) _ _ _ _ _ _ _ c.in_ok-ready.ensures.prepares
+    prepares_then (λ loading. loading) (λ prepared. outcome_of prepared c.args.board.now) _ _ _ _ _ _ _ c.in_ok-loading.ensures.prepares
     (prepares_own (λ prepared. outcome_of prepared c.args.board.now) _ _ _ refl)

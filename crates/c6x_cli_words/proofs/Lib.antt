@@ -1,0 +1,3 @@
+pub mod Text
+pub mod Arguments
+pub mod Verbs

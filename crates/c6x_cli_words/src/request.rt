@@ -1,0 +1,15 @@
+use c6x_base::Name;
+use c6x_policy::Kind;
+
+/// What the command's words ask for.
+#[derive(Debug, Drop)]
+pub enum Request {
+    /// Assemble a text to an object file.
+    Assemble { input: Name, output: Name },
+    /// Link the objects of a link plan to a module.
+    Link { plan: Name, output: Name },
+    /// Lay the processes of a plan out on the board and list where everything stands.
+    Map { plan: Name },
+    /// Run them to their ends, in turns of the first policy of this kind, and tell how they ended.
+    Run { plan: Name, policy: Kind, seed: u32 },
+}
