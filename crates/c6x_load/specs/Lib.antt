@@ -1,5 +1,2 @@
-pub mod Placement
-pub mod Start
-pub mod Loaded
 pub mod Starts
 pub mod Made

@@ -1,4 +1,4 @@
-use Rattle.std.specs.Prelude.{◌≡◌, ℕ, ◌+◌, ◌*◌, ◌%◌, ◌^◌, ◌<◌, ◌≤◌, ◌⊎◌, IsTrue, List, [], length, sum_by, AllPairs, All}
+use Rattle.std.specs.Prelude.{◌≡◌, ℕ, ◌+◌, ◌*◌, ◌%◌, ◌^◌, ◌<◌, ◌≤◌, ◌⊎◌, IsTrue, List, length, sum_by, AllPairs, All}
 use Rattle.c6x_spec.specs.Fields.{bits_of}
 use Rattle.c6x_base.specs.declared.limits.TheConstants.{MOST_HELD_BYTES, MOST_NAMES_BYTES}
 use Rattle.c6x_elf.specs.Abi.{PT_LOAD}
@@ -74,9 +74,3 @@ pub record IsValid (m : Module) : Type 0 where
   pub fields_apart : AllPairs FieldsApart m.fields
   pub symbols : length m.symbols < 2 ^ 32
   pub names : names_length m ≤ MOST_NAMES_BYTES
-
--- A module that makes a process alone: an executable, with no field to fill, that needs no other module.
-pub record IsAlone (m : Module) : Type 0 where
-  pub executable : m.index ≡ 0
-  pub no_fields : m.fields ≡ []
-  pub needs_none : m.needed ≡ []

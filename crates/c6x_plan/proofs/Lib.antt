@@ -1,6 +1,3 @@
-pub mod Cuts
-pub mod Parts
-pub mod Text
 pub mod LinesLeft
 pub mod Drafting
 pub mod Places

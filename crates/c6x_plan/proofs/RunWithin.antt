@@ -11,7 +11,7 @@ use Rattle.std.proofs.lemmas.List.Quantifiers.{all_pairs_push}
 use Rattle.std.proofs.lemmas.Slice.Eq.{bytes_eq-Decides}
 use Rattle.c6x_spec.specs.Options.{◌>>=◌}
 use Rattle.c6x_plan.specs.declared.limits.TheConstants.{MOST_MODULES, MOST_PROCESSES, MOST_CYCLES, MOST_QUANTUM, QUANTUM, LEAST_STACK, MOST_STACK}
-use Rattle.c6x_plan.specs.declared.line.Sizes.{Sizes}
+use Rattle.c6x_plan.specs.declared.sizes.Sizes.{Sizes}
 use Rattle.c6x_plan.specs.declared.module_plan.ModulePlan.{ModulePlan}
 use Rattle.c6x_plan.specs.declared.run_draft.RunDraft.{RunDraft}
 use Rattle.c6x_plan.specs.declared.run_line.ProcessLine.{ProcessLine}

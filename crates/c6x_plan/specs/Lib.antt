@@ -9,6 +9,4 @@ pub mod RunLines
 pub mod RunPlans
 pub mod RunDrafts
 pub mod Limits
-pub mod Plain
 pub mod Answer
-pub mod Parts

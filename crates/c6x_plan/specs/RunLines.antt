@@ -5,7 +5,7 @@ use Rattle.std.specs.Option.{option_map}
 use Rattle.std.specs.Str.{bytes_eq}
 use Rattle.c6x_spec.specs.Options.{◌>>=◌}
 use Rattle.c6x_plan.specs.declared.limits.TheConstants.{MOST_MODULES, MOST_PROCESSES, MOST_CYCLES, MOST_QUANTUM, LEAST_STACK, MOST_STACK}
-use Rattle.c6x_plan.specs.declared.line.Sizes.{Sizes}
+use Rattle.c6x_plan.specs.declared.sizes.Sizes.{Sizes}
 use Rattle.c6x_plan.specs.declared.module_plan.ModulePlan.{ModulePlan}
 use Rattle.c6x_plan.specs.PlanRules.{PlanRule}
 use Rattle.c6x_plan.specs.PlanRules.{Name, Count}

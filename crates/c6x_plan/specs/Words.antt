@@ -1,13 +1,7 @@
-use Rattle.std.specs.Prelude.{◌≡◌, ℕ, ◌≤◌, IsTrue, ◌+◌, ◌-◌, ◌*◌, Bool, ◌==◌, ◌&&◌, nat_le, List, length, take, drop, Option, None, Some, if◌then◌else◌}
-use Rattle.std.specs.List.{fold, list_all, position}
-use Rattle.std.specs.Option.{option_map}
-use Rattle.std.specs.Str.{bytes_eq}
-use Rattle.c6x_spec.specs.Options.{◌>>=◌}
+-- The words of a plan: names and numbers.
+use Rattle.std.specs.Prelude.{ℕ, ◌+◌, ◌-◌, ◌*◌, Bool, ◌&&◌, nat_le, List, length, Option, None, Some, if◌then◌else◌}
+use Rattle.std.specs.List.{fold, list_all}
 use Rattle.c6x_base.specs.declared.limits.TheConstants.{MOST_NAME_BYTES}
-
--- A piece of a text is what stands in front of the first byte of this value; with it comes what stands behind.
-unfoldable pub until : ℕ → List ℕ → Option (List ℕ × List ℕ)
-until end text = option_map (λ place. (take place text, drop (place + 1) text)) (position (λ byte. byte == end) text)
 
 -- A name: at least one byte, and at most as many as a name may have, that show and are no space.
 abbrev pub is_shown : ℕ → Bool
@@ -29,32 +23,7 @@ with_digit value byte = value * 10 + (byte - 48)
 unfoldable pub value_of : List ℕ → ℕ
 value_of digits = fold with_digit 0 digits
 
--- A number within limits, as the digits of a text give it.
-pub record IsNumberIn (least most : ℕ) (digits : List ℕ) (number : ℕ) : Type 0 where
-  pub form : IsTrue (is_number digits)
-  pub value : value_of digits ≡ number
-  pub not_below : least ≤ number
-  pub not_above : number ≤ most
-
--- What follows a word that must stand here.
-unfoldable pub key : List ℕ → ℕ → List ℕ → Option (List ℕ)
-key word end text = do
-  piece ← until end text
-  if bytes_eq piece.0 word then Some piece.1 else None
-
--- A name that stands here, and what follows it.
-unfoldable pub name : ℕ → List ℕ → Option (List ℕ × List ℕ)
-name end text = do
-  piece ← until end text
-  if is_name piece.0 then Some piece else None
-
--- A number within limits that stands here, and what follows it.
+-- A number within limits, as its digits give it.
 unfoldable pub number_in : ℕ → ℕ → List ℕ → Option ℕ
 number_in least most digits =
     if is_number digits && nat_le least (value_of digits) && nat_le (value_of digits) most then Some (value_of digits) else None
-
-unfoldable pub number : ℕ → ℕ → ℕ → List ℕ → Option (ℕ × List ℕ)
-number end least most text = do
-  piece ← until end text
-  value ← number_in least most piece.0
-  Some (value, piece.1)

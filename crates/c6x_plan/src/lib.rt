@@ -1,13 +1,10 @@
 //! Texts that say what to do (this project's own): the plan of a run, and of a link.
 //!
 //! The linker stands on [`LinkPlan`], the loader on [`ModulePlan`] and [`ProcessPlan`].
-//! [`read_plain_plan`] reads the simplest one, which names one module and one process of it.
 #![tactic(auto)]
 
-mod error;
 mod first;
 pub mod limits;
-mod line;
 mod lines;
 mod link;
 mod link_draft;
@@ -15,25 +12,21 @@ mod link_line;
 mod link_plan;
 mod module_plan;
 mod number;
-mod plain;
-mod plan;
 mod plan_error;
 mod process_plan;
 mod run;
 mod run_draft;
 mod run_line;
 mod run_plan;
+mod sizes;
 mod slots;
 mod text_line;
 mod word;
 
-pub use error::PlainPlanError;
 pub use link::read_link_plan;
 pub use link_plan::LinkPlan;
 pub use module_plan::ModulePlan;
 pub use number::number_in;
-pub use plain::read_plain_plan;
-pub use plan::PlainPlan;
 pub use plan_error::PlanError;
 pub use process_plan::ProcessPlan;
 pub use run::read_plan;

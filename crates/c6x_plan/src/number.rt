@@ -1,9 +1,6 @@
 ghost use Rattle.std.specs.Prelude.{◌≡◌, ℕ, ◌^◌, ◌<◌, ◌≤◌, length, IsTrue};
 ghost use Rattle.std.specs.List.{list_all};
-ghost use Rattle.c6x_plan.specs.Answer.{Gives};
-ghost use Rattle.c6x_plan.specs.Words.{is_digit, is_number, value_of, number_in, number};
-
-use crate::word::until;
+ghost use Rattle.c6x_plan.specs.Words.{is_digit, is_number, value_of, number_in};
 
 /// The bytes are one to ten decimal digits.
 #[tactic(auto, unfolding(crate::specs::Words::is_number))]
@@ -48,13 +45,4 @@ pub fn number_in(digits: &[u8], least: u32, most: u32) -> Option<u32>
     } else {
         None
     }
-}
-
-/// A number within limits that stands here, and what follows it.
-#[tactic(auto, unfolding(crate::specs::Words::number))]
-pub fn number(text: &[u8], end: u8, least: u32, most: u32) -> Option<(u32, &[u8])>
-    ensures { Gives (λ part. (part.0, part.1.now)) result (number end least most text.now) }
-{
-    let (digits, rest) = until(text, end)?;
-    Some((number_in(digits, least, most)?, rest))
 }

@@ -3,9 +3,9 @@ ghost use Rattle.c6x_plan.specs.Answer.{Gives};
 ghost use Rattle.c6x_plan.specs.RunLines.{module_line, number_behind, process_line, quantum_line, run_line, sizes_in};
 
 use crate::limits::{LEAST_STACK, MOST_CYCLES, MOST_QUANTUM, MOST_STACK};
-use crate::line::Sizes;
 use crate::module_plan::ModulePlan;
 use crate::number::number_in;
+use crate::sizes::Sizes;
 use crate::word::is_name;
 use c6x_base::Name;
 use std::alloc::{AllocError, Global};

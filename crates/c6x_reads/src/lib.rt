@@ -11,8 +11,6 @@ pub use images::plain_executable;
 #[cfg(test)]
 mod files;
 #[cfg(test)]
-mod modules;
-#[cfg(test)]
 mod owners;
 #[cfg(test)]
 mod plans;

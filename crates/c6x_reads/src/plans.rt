@@ -1,28 +1,38 @@
-use c6x_plan::{PlainPlanError, read_plain_plan};
+use c6x_plan::{PlanError, read_plan};
 use std::alloc::Global;
 use std::test::Fail;
 
 const TEXT: &[u8] =
     b"c6x-plan 1\nquantum 10\nmodule app app.out\nprocess p app limit 100 stack 64 arg 4294967295\n";
 
-fn is_refused(alloc: Global, text: &[u8]) -> bool {
-    matches!(read_plain_plan(alloc, text), Err(PlainPlanError::NotPlain))
+/// The line of the first broken rule and which of the three rules it is; 0 and 0 where there is none.
+fn refusal_of(alloc: Global, text: &str) -> (u32, u32) {
+    let bytes = text.as_bytes();
+    if bytes.len() > 1_000 {
+        return (0, 0);
+    }
+    match read_plan(alloc, bytes) {
+        Err(PlanError::Syntax { line }) => (1, line),
+        Err(PlanError::Name { line }) => (2, line),
+        Err(PlanError::Count { line }) => (3, line),
+        Ok(_) | Err(PlanError::NoMemory) => (0, 0),
+    }
 }
 
-/// Texts that differ from a plain plan in one place.
-const REFUSED: [&str; 6] = [
-    "c6x-plan 1\nquantum 10\nmodule app app.out\nprocess p  app limit 100 stack 64 arg 0\n",
-    "c6x-plan 1\nquantum 10\nmodule app app.out\nprocess p lib limit 100 stack 64 arg 0\n",
-    "c6x-plan 1\nquantum 0\nmodule app app.out\nprocess p app limit 100 stack 64 arg 0\n",
-    "c6x-plan 1\nquantum 10\nmodule app app.out\nprocess p app limit 100 stack 68 arg 0\n",
-    "c6x-plan 1\nquantum 10\nmodule app app.out\nprocess p app limit 100 stack 64 arg 00000000000\n",
-    "c6x-plan 1\nquantum 10\nmodule app app.out\nprocess p app limit 100 stack 64 arg 0\n\n",
+/// Texts with the rule that each breaks first, and its line.
+const REFUSED: [(&str, (u32, u32)); 6] = [
+    ("quantum 10\n", (1, 1)),
+    ("c6x-plan 1\nquantum 0\n", (1, 2)),
+    ("c6x-plan 1\nquantum 1\nquantum 1\n", (1, 3)),
+    ("c6x-plan 1\nmodule app app.out\nprocess p lib limit 1 stack 64 arg 0\n", (2, 3)),
+    ("c6x-plan 1\nmodule app app.out\nprocess p app limit 1 stack 68 arg 0\n", (1, 3)),
+    ("c6x-plan 1\nmodule app app.out\n", (3, 0)),
 ];
 
-/// Whether each of these texts is refused.
-fn are_refused(alloc: Global, texts: &[&str]) -> bool {
-    for text in texts {
-        if !is_refused(alloc, text.as_bytes()) {
+/// Whether each of these texts breaks its rule.
+fn are_refused(alloc: Global, rows: &[(&str, (u32, u32))]) -> bool {
+    for (text, wanted) in rows {
+        if refusal_of(alloc, text) != *wanted {
             return false;
         }
     }
@@ -30,21 +40,24 @@ fn are_refused(alloc: Global, texts: &[&str]) -> bool {
 }
 
 #[test]
-fn reads_a_plain_plan(rt: HostRuntime) -> Result<(), Fail> {
-    let plan = read_plain_plan(rt.alloc(), TEXT)?;
-    assert!(&rt; plan.image.as_bytes() == b"app".as_slice());
-    assert!(&rt; plan.file.as_bytes() == b"app.out".as_slice());
-    assert!(&rt; plan.process.as_bytes() == b"p".as_slice());
+fn reads_a_plan(rt: HostRuntime) -> Result<(), Fail> {
+    let plan = read_plan(rt.alloc(), TEXT)?;
+    assert_eq!(&rt; plan.quantum, 10);
+    let (modules, processes) = (plan.modules.as_slice(), plan.processes.as_slice());
+    assert!(&rt; modules.len() == 1 && processes.len() == 1);
+    assert!(&rt; modules[0].name.as_bytes() == b"app".as_slice());
+    assert!(&rt; modules[0].file.as_bytes() == b"app.out".as_slice());
+    let process = &processes[0];
+    assert!(&rt; process.name.as_bytes() == b"p".as_slice());
     assert_eq!(&rt;
-        (plan.quantum, plan.limit, plan.stack, plan.arg),
-        (10, 100, 64, 4_294_967_295)
+        (process.module, process.limit, process.stack, process.arg),
+        (0, 100, 64, 4_294_967_295)
     );
     Ok(())
 }
 
-// Memory is ample here, so a text that differs in one place gives no plan for what it is.
+// Memory is ample here, so a text that breaks a rule gives no plan for what it is.
 #[test]
 fn refuses_other_texts(rt: HostRuntime) {
-    assert!(&rt; is_refused(rt.alloc(), &TEXT[..TEXT.len() - 1]));
     assert!(&rt; are_refused(rt.alloc(), &REFUSED));
 }

@@ -1,2 +1,0 @@
-pub mod PlainParts
-mod WorkedRow
