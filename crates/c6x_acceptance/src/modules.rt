@@ -152,10 +152,20 @@ pub fn maps(
     out: &str,
     err: &str,
 ) -> Result<bool, AllocError> {
+    answers(alloc, d, "map row.plan", plan, status, out, err)
+}
+
+/// Whether a command on this plan, under the name `row.plan`, gives this status and these texts.
+pub fn answers(
+    alloc: Global,
+    d: &mut Devices,
+    words: &str,
+    plan: &str,
+    status: u8,
+    out: &str,
+    err: &str,
+) -> Result<bool, AllocError> {
     d.out = MemorySink::new(alloc, 65_536, Vec::new(alloc))?;
     d.err = MemorySink::new(alloc, 65_536, Vec::new(alloc))?;
-    Ok(
-        stores(alloc, d, "row.plan", plan.as_bytes())?
-            && gives(alloc, d, "map row.plan", status, out, err)?,
-    )
+    Ok(stores(alloc, d, "row.plan", plan.as_bytes())? && gives(alloc, d, words, status, out, err)?)
 }

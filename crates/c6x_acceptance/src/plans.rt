@@ -1,5 +1,5 @@
 use crate::devices::{BASE, has_word};
-use crate::modules::{damages, maps, module_devices};
+use crate::modules::{answers, damages, maps, module_devices};
 use std::alloc::{AllocError, Global};
 
 /// The length of the board.
@@ -154,6 +154,37 @@ fn a_library_is_shared(rt: HostRuntime) -> Result<(), AllocError> {
         assert!(&rt; maps(alloc, &mut d, plan, 0, text, "")?);
         for at in [0x8000_0258, 0x8000_02c8] {
             assert!(&rt; has_word(&d.board, at, 10), "{at}");
+        }
+    }
+    Ok(())
+}
+
+// Two processes that share a library end as each does alone, under every policy and quantum; the board holds what each
+// has written into its own data.
+#[test]
+fn processes_of_a_library_are_run(rt: HostRuntime) -> Result<(), AllocError> {
+    let alloc = rt.alloc();
+    let made = module_devices(alloc, LEN)?;
+    assert!(&rt; made.is_some());
+    if let Some(mut d) = made {
+        let text =
+            "text app 0x80000000 316\ntext libq.so 0x80000140 236\ndata a app 0x80000230 20\ndata a libq.so 0x80000248 20\nstack a 0x80000260 64\ndata b app 0x800002a0 20\ndata b libq.so 0x800002b8 20\nstack b 0x800002d0 64\nprocess a exit 17 cycles 50 output 0\n\nprocess b exit 110 cycles 50 output 0\n\n";
+        for quantum in [1, 7, 65_535] {
+            let plan = format!(in alloc;
+                "c6x-plan 1\nquantum {quantum}\nmodule app app.out\nmodule libq.so libq.out\nprocess a app limit 1000 stack 64 arg 7\nprocess b app limit 1000 stack 64 arg 100\n"
+            )?;
+            for words in [
+                "run row.plan",
+                "run row.plan --policy last",
+                "run row.plan --policy drawn --seed 1",
+            ] {
+                assert!(&rt;
+                    answers(alloc, &mut d, words, &plan, 0, text, "")?,
+                    "{words}"
+                );
+                assert!(&rt; has_word(&d.board, 0x8000_0258, 17), "{words}");
+                assert!(&rt; has_word(&d.board, 0x8000_02c8, 110), "{words}");
+            }
         }
     }
     Ok(())
