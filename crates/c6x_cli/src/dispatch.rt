@@ -1,7 +1,9 @@
-ghost use Rattle.std.specs.Prelude.{◌≡◌, ◌⊎◌, Option, Some, map};
+ghost use Rattle.std.specs.Prelude.{◌≡◌, ◌⊎◌, ℕ, All, List, Ok, Option, Some, map};
 ghost use Rattle.c6x_spec.specs.Files.{Files};
 ghost use Rattle.c6x_cli.specs.Meaning.{CanCommit, HasPolicy, asks, is_store, outcome_of, steps_of};
 ghost use Rattle.c6x_cli.specs.Serving.{EndsUsage, served};
+ghost use Rattle.c6x_cli_loads.specs.LinkedLoads.{HoldsBytes, LinkedLoads};
+ghost use Rattle.c6x_cli_objects.specs.Linking.{linking_steps};
 ghost use Rattle.c6x_cli_steps.specs.Exits.{Commits, Completes, Exits, LacksMemory, NoFault};
 ghost use Rattle.c6x_cli_steps.specs.Policies.{KeepsPolicies};
 ghost use Rattle.c6x_cli_steps.specs.Statuses.{Keeps, Performs, Shows};
@@ -67,6 +69,10 @@ pub fn command<S: Shelf, O: Sink, E: Sink>(
         (world (S.seen shelf.new) (O.seen out.new) (E.seen err.new) board.new (map chooser policies.new.items)) }
     ensures policies { (read : Option Request) → IsReading words.items read
         → KeepsPolicies result (kind_asked (served read (map chooser policies.old.items))) (map chooser policies.old.items) (map chooser policies.new.items) }
+
+    // The bytes that `ld` comes to are read as the module of the link, but for the rules L9 and L10 where the link breaks them.
+    ensures loads { (told : Files) (plan bytes : List ℕ) → All HoldsBytes told
+        → (linking_steps told plan).result ≡ Ok bytes → LinkedLoads told plan bytes }
 {
     match request_of(words, policies) {
         Some(request) => perform(alloc, request, shelf, out, err, board, policies),

@@ -1,4 +1,5 @@
 use Rattle.std.proofs.Common.{sym, []}
+use Rattle.c6x_cli_loads.proofs.LoadsRead.{linked_loads}
 use Rattle.c6x_cli_steps.proofs.Performs.{completes, exits_performed, keeps_performed, policies_performed, shows_performed}
 use Rattle.c6x_cli.proofs.Misread.{exits_misread, keeps_misread, policies_misread, shows_misread, stopped_misread, usage_misread, usage_performed}
 use Rattle.c6x_cli.proofs.OutcomeKinds.{performs_read}
@@ -48,3 +49,9 @@ returns-in-None-clause-keeps g c = λ read is. keeps_misread _ _ _ _ _ _ _
 
 pub returns-in-None-clause-policies : goal.returns-in-None-clause-policies
 returns-in-None-clause-policies g c = λ read is. policies_misread _ _ _ _ (stopped_misread _ (g.S.Shelf.seen c.args.shelf.now) (g.O.Sink.seen c.args.out.now) _ _ c.args.board.now _ c.report_error.ensures)
+
+pub returns-in-Some-clause-loads : goal.returns-in-Some-clause-loads
+returns-in-Some-clause-loads g c = linked_loads
+
+pub returns-in-None-clause-loads : goal.returns-in-None-clause-loads
+returns-in-None-clause-loads g c = linked_loads
