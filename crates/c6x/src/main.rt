@@ -41,7 +41,13 @@ fn run(rt: &HostRuntime) -> Result<u8, AllocError> {
     let drawn: Box<dyn Policy> = Box::new(alloc, DrawnBySeed::new())?;
     let mut policies = vec![in alloc; round, last, drawn]?;
     Ok(command(
-        alloc, words, &mut shelf, &mut out, &mut err, &mut board, &mut policies,
+        alloc,
+        words,
+        &mut shelf,
+        &mut out,
+        &mut err,
+        &mut board,
+        &mut policies,
     ))
 }
 

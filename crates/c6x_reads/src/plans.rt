@@ -24,8 +24,14 @@ const REFUSED: [(&str, (u32, u32)); 6] = [
     ("quantum 10\n", (1, 1)),
     ("c6x-plan 1\nquantum 0\n", (1, 2)),
     ("c6x-plan 1\nquantum 1\nquantum 1\n", (1, 3)),
-    ("c6x-plan 1\nmodule app app.out\nprocess p lib limit 1 stack 64 arg 0\n", (2, 3)),
-    ("c6x-plan 1\nmodule app app.out\nprocess p app limit 1 stack 68 arg 0\n", (1, 3)),
+    (
+        "c6x-plan 1\nmodule app app.out\nprocess p lib limit 1 stack 64 arg 0\n",
+        (2, 3),
+    ),
+    (
+        "c6x-plan 1\nmodule app app.out\nprocess p app limit 1 stack 68 arg 0\n",
+        (1, 3),
+    ),
     ("c6x-plan 1\nmodule app app.out\n", (3, 0)),
 ];
 
