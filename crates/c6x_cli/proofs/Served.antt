@@ -1,6 +1,6 @@
 use Rattle.std.proofs.Common.{◌≡◌, ◌∙◌, ℕ, ◌+◌, ◌<◌, Bool, true, false, zero, suc, List, [], ◌∷◌, length, get_or, cond, not, refl, sym, ap, subst, ltb-true, ltb-false, arith}
 use Rattle.std.proofs.lemmas.Bool.{lt-ltb, false_from_ne_true}
-use Rattle.std.specs.Prelude.{Option, None, Some, IsTrue, Result, Ok, Err, is_some, map, nat_lt, set, slice_get, if◌then◌else◌}
+use Rattle.std.specs.Prelude.{Option, None, Some, IsTrue, Result, is_some, map, nat_lt, set, slice_get, if◌then◌else◌}
 use Rattle.std.specs.List.{position, position_or_len, prefix_len}
 use Rattle.std.proofs.lemmas.List.Quantifiers.{position-Some}
 use Rattle.std.proofs.lemmas.List.Sums.{position_or_len_is}
@@ -13,14 +13,12 @@ use Rattle.c6x_spec.specs.Memory.{Memory}
 use Rattle.c6x_ports.specs.Shelf.{Shelved}
 use Rattle.c6x_ports.specs.Sink.{Taken}
 use Rattle.c6x_cli_steps.specs.declared.commit_error.CommitError.{CommitError}
-use Rattle.c6x_cli_steps.specs.declared.commit_error.CommitError.TheVariants.{WriteFault, Memory as CommitMemory}
-use Rattle.c6x_cli_steps.specs.Exits.{Carries, asking_outcome, put_outcome}
+use Rattle.c6x_cli_steps.specs.Exits.{Carries, asking_outcome}
 use Rattle.c6x_cli_steps.specs.Policies.{first_of, same_kind, Serves}
 use Rattle.c6x_cli_steps.specs.Stages.{Stage, Delivers}
 use Rattle.c6x_cli_steps.specs.World.{world}
 use Rattle.c6x_cli_steps.proofs.Performs.{carries_asking}
 use Rattle.c6x_cli_steps.proofs.Policies.{map_set}
-use Rattle.c6x_cli_steps.proofs.Stages.{takes_nothing}
 use Rattle.c6x_cli_loading.specs.declared.loading.Loading.{Loading}
 use Rattle.c6x_cli_run.specs.Stages.{asked_of}
 use Rattle.c6x_cli_words.specs.Requests.{IsReading}
@@ -118,19 +116,6 @@ unfolding first_of
 first_is kind policies place was found there =
     let passes = (position-Some (λ policy. same_kind policy.kind kind) policies place was found).1 in
     kinds_same was.kind kind (subst (λ policy. same_kind policy.kind kind ≡ true) (got_or policies place was was there) passes)
-
--- stages that are put carry out a command that stores nothing and asks no policy
-pub carries_delivered : {A : Type 0} (stages : List Stage) (out new_out : Taken) (board new_board : Memory) (result : Result A CommitError) (shelf : Shelved) (err : Taken) (policies : List Chooser) → Delivers stages out new_out board new_board result → Carries (put_outcome stages) result (world shelf out err board policies) (world shelf new_out err new_board policies)
-carries_delivered stages out new_out board new_board (Ok _) shelf err policies d =
-    record { out = d.all; err = refl; board = d.at; files = refl; policies = refl }
-carries_delivered stages out new_out board new_board (Err WriteFault) shelf err policies d =
-    record { out = d.cut refl; files = refl; counts = d.failed refl; policies = refl }
-carries_delivered stages out new_out board new_board (Err CommitMemory) shelf err policies d = record {
-  files = refl;
-  out = takes_nothing out.bytes new_out.bytes (d.unwritten refl).0;
-  board = (d.unwritten refl).1;
-  policies = refl;
-}
 
 -- what is asked of the first policy of a kind carries out a command that asks it
 pub asking_carries : {A B : Type 0} (view : B → Chooser) (items now : List B) (place : ℕ) (was new : B) (kind : Kind) (seed : ℕ) (loading : Loading) (stages : List Stage) (out new_out : Taken) (board new_board : Memory) (result : Result A CommitError) (shelf : Shelved) (err : Taken) → first_of kind (map view items) ≡ Some place → place < length items → was ≡ get_or items place was → now ≡ set items place new → Delivers stages out new_out board new_board result → Serves (asked_of (view was).kind seed loading) (view was) (view new) result → Carries (asking_outcome stages (asked_of kind seed loading)) result (world shelf out err board (map view items)) (world shelf new_out err new_board (map view now))

@@ -16,7 +16,7 @@ use Rattle.c6x_cli_steps.specs.Exits.{Outcome, put_outcome, asking_outcome, stor
 use Rattle.c6x_cli_steps.specs.Lines.{line_of, status_of, error_line, error_status, memory_line, write_fault_line}
 use Rattle.c6x_cli_steps.specs.Statuses.{Shows, Keeps, IsOfKind, IsCarriedOut, IsPrevented, Performs}
 use Rattle.c6x_cli_steps.specs.Policies.{Asked, asked_kind, first_of, Serves, HasAsked, MayHaveAsked, HasAskedKind, MayHaveAskedKind, KeepsPolicies}
-use Rattle.c6x_cli_steps.specs.Stages.{Stage, PutsStages, Delivers}
+use Rattle.c6x_cli_steps.specs.Stages.{Stage, Delivers}
 use Rattle.c6x_cli_steps.specs.Steps.{Steps, Stops, HasCause, Prepares}
 use Rattle.c6x_cli_steps.specs.Stores.{HasStored, HasCutStore, KeepsWriteFaults}
 use Rattle.c6x_cli_steps.specs.World.{World, world}
@@ -301,16 +301,18 @@ policies_performed steps storing asking status before after performs = elim perf
       policies_stopped (error_line prevented.error) (error_status prevented.error) status asking before after (not_done prevented.error) prevented.stopped
 ]
 
--- stages that were put carry a command out that stores nothing and asks no policy
-pub done_of_stages : {A E : Type 0} (stages : List Stage) (out new_out : Taken) (board new_board : Memory) (value : A) (shelf : Shelved) (err : Taken) (policies : List Chooser) → PutsStages {A = A} {E = E} stages out new_out board new_board (Ok value) → IsDone (put_outcome stages) (world shelf out err board policies) (world shelf new_out err new_board policies)
-done_of_stages stages out new_out board new_board value shelf err policies p =
-    record { out = p.all; err = refl; board = p.at; files = refl; policies = refl }
-
--- stages of which one was cut cut it short
-pub carries_cut : {A B E : Type 0} (stages : List Stage) (out new_out : Taken) (board new_board : Memory) (error : E) (result : Result B CommitError) (shelf : Shelved) (err : Taken) (policies : List Chooser) → result ≡ Err WriteFault → PutsStages {A = A} {E = E} stages out new_out board new_board (Err error) → Carries (put_outcome stages) result (world shelf out err board policies) (world shelf new_out err new_board policies)
-carries_cut stages out new_out board new_board error result shelf err policies is p =
-    subst (λ r. Carries (put_outcome stages) r (world shelf out err board policies) (world shelf new_out err new_board policies)) (sym is)
-    (record { out = p.cut; files = refl; counts = p.failed; policies = refl })
+-- stages that are put carry out a command that stores nothing and asks no policy
+pub carries_delivered : {A : Type 0} (stages : List Stage) (out new_out : Taken) (board new_board : Memory) (result : Result A CommitError) (shelf : Shelved) (err : Taken) (policies : List Chooser) → Delivers stages out new_out board new_board result → Carries (put_outcome stages) result (world shelf out err board policies) (world shelf new_out err new_board policies)
+carries_delivered stages out new_out board new_board (Ok _) shelf err policies d =
+    record { out = d.all; err = refl; board = d.at; files = refl; policies = refl }
+carries_delivered stages out new_out board new_board (Err WriteFault) shelf err policies d =
+    record { out = d.cut refl; files = refl; counts = d.failed refl; policies = refl }
+carries_delivered stages out new_out board new_board (Err CommitMemory) shelf err policies d = record {
+  files = refl;
+  out = takes_nothing out.bytes new_out.bytes (d.unwritten refl).0;
+  board = (d.unwritten refl).1;
+  policies = refl;
+}
 
 -- stages that a policy was asked for carry out a command that asks it
 pub carries_asking : {A : Type 0} (stages : List Stage) (asked : Asked) (out new_out : Taken) (board new_board : Memory) (policies : List Chooser) (place : ℕ) (was now : Chooser) (result : Result A CommitError) (shelf : Shelved) (err : Taken) → Delivers stages out new_out board new_board result → Serves asked was now result → first_of asked.kind policies ≡ Some place → slice_get policies place ≡ Some was → Carries (asking_outcome stages asked) result (world shelf out err board policies) (world shelf new_out err new_board (set policies place now))

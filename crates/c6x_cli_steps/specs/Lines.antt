@@ -1,4 +1,4 @@
-use Rattle.std.specs.Prelude.{ℕ, List, ◌++◌, codes, decimal, length, nat_le, Option, None, Some, Result, Ok, Err, if◌then◌else◌}
+use Rattle.std.specs.Prelude.{ℕ, List, ◌++◌, codes, decimal, length, nat_le, Result, Ok, Err, if◌then◌else◌}
 use Rattle.c6x_elf.specs.Types.{ElfRule}
 use Rattle.c6x_elf.specs.ElfRules.{Short, Magic, Class, Data, Version, Machine, FileType, EntrySize, Index, NoNul, Large}
 use Rattle.c6x_cli_steps.specs.declared.cause.Refusal.{Refusal}
@@ -24,10 +24,6 @@ elf_words EntrySize = codes "E8 EntrySize"
 elf_words Index = codes "E9 Index"
 elf_words NoNul = codes "E10 NoNul"
 elf_words Large = codes "E11 Large"
-
--- Those of the rule that this program does not build a well-formed input yet.
-unfoldable pub not_built_words : List ℕ
-not_built_words = codes "X1 NotBuilt"
 
 unfoldable pub usage_line : List ℕ
 usage_line = codes "c6x: usage\n"
@@ -69,15 +65,6 @@ abbrev pub error_status : PrepareError → ℕ
 error_status (Because cause) = status_of cause
 error_status (ReadFault _) = 5
 error_status Memory = 7
-
--- The refusal of a subject that is not built yet.
-abbrev pub not_built : List ℕ → Refusal
-not_built subject = record { rule = not_built_words; subject = subject; number = 0 }
-
--- The value of a reading, or the rule that its subject is not built yet.
-abbrev pub or_not_built : {A : Type 0} → List ℕ → Option A → Result A Cause
-or_not_built subject (Some value) = Ok value
-or_not_built subject None = Err (Refused (not_built subject))
 
 -- The refusal of a file that is longer than a file may be.
 abbrev pub too_long : List ℕ → Refusal

@@ -17,4 +17,4 @@ pub use commit_error::CommitError;
 pub use diagnostics::{report_error, report_write_fault};
 pub use files::{fetch_file, fetch_whole};
 pub use prepare_error::PrepareError;
-pub use refusals::{elf_label, label, refuse, refuse_unbuilt};
+pub use refusals::{elf_label, label, refuse};

@@ -1,5 +1,5 @@
 ghost use Rattle.std.specs.Prelude.{◌≡◌, ◌≤◌, length};
-ghost use Rattle.c6x_cli_steps.specs.Lines.{elf_words, not_built, not_built_words};
+ghost use Rattle.c6x_cli_steps.specs.Lines.{elf_words};
 ghost use Rattle.c6x_cli_steps.specs.Steps.{Refuses};
 
 use crate::cause::{Cause, Refusal};
@@ -20,14 +20,6 @@ pub fn refuse(alloc: Global, rule: Line, subject: &Name, number: u32) -> Prepare
         })),
         Err(_) => PrepareError::Memory,
     }
-}
-
-/// The stop at a subject that is not built yet.
-#[tactic(auto, unfolding(crate::specs::Lines::not_built_words))]
-pub fn refuse_unbuilt(alloc: Global, subject: &Name) -> PrepareError
-    ensures { Refuses result (not_built subject.now) }
-{
-    refuse(alloc, label(b"X1 NotBuilt"), subject, 0)
 }
 
 /// A rule's code and word as a line has them.
