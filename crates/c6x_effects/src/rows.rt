@@ -1,7 +1,8 @@
-ghost use Rattle.std.specs.Prelude.{◌≡◌, ◌<◌, ◌≤◌, ◌^◌, ℕ, Option, Some, None, IfSome, if◌then◌else◌};
+ghost use Rattle.std.specs.Prelude.{◌≡◌, ◌<◌, ◌≤◌, ◌^◌, ℕ, Bool, true, Option, Some, None, IfSome, if◌then◌else◌};
 ghost use Rattle.c6x_instr.specs.Values.{changes_base};
 ghost use Rattle.c6x_instr.specs.Spelling.{first_bits, IsValid};
 ghost use Rattle.c6x_instr.specs.Bounds.{FitsOp};
+ghost use Rattle.c6x_instr.specs.Families.{is_access, is_branch, is_computing};
 ghost use Rattle.c6x_instr.specs.Rows.{effects_of, first_value, long_base, op_effects, short_effects, only_wait as only_wait_of, written_to, FitsEffects, FitsWrite};
 
 use crate::conditions::{holds, read_from, wait};
@@ -64,6 +65,32 @@ fn operation(op: Op, at: u32, next: u32, regs: &Regs) -> Effects
     ensures fits { FitsEffects result }
 {
     match op {
+        Op::Two { .. } | Op::Move { .. } => Effects {
+            result: computed(op, regs),
+            ..only_wait(0)
+        },
+        Op::Branch { .. }
+        | Op::Callp { .. }
+        | Op::BranchNop { .. }
+        | Op::BranchReg { .. }
+        | Op::BranchRegNop { .. } => branch(op, at, next, regs),
+        Op::AddKpc { field, wait, dst } => Effects {
+            result: written(Side::B, dst, displaced(at, 7, u32::from(field)), 0),
+            ..only_wait(wait)
+        },
+        Op::Nop { cycles } => only_wait(cycles - 1),
+        Op::Short { .. } | Op::Long { .. } => access(op, regs),
+    }
+}
+
+/// The write of an operation that only computes a value.
+fn computed(op: Op, regs: &Regs) -> Option<Write>
+    requires computes { is_computing op ≡ true }
+    requires fits { FitsOp op }
+    ensures row { (at next : ℕ) → record (only_wait_of 0) { result = result } ≡ op_effects op at next regs.now }
+    ensures fits { IfSome result FitsWrite }
+{
+    match op {
         Op::Two {
             unit,
             arith,
@@ -75,11 +102,7 @@ fn operation(op: Op, at: u32, next: u32, regs: &Regs) -> Effects
         } => {
             let a = first_operand(unit, arith, side, first, regs);
             let b = regs.get(read_from(side, cross), second);
-            let result = written(side, dst, value(unit, arith, a, b), delay(unit));
-            Effects {
-                result,
-                ..only_wait(0)
-            }
+            written(side, dst, value(unit, arith, a, b), delay(unit))
         }
         Op::Move {
             kind,
@@ -87,47 +110,58 @@ fn operation(op: Op, at: u32, next: u32, regs: &Regs) -> Effects
             constant,
             dst,
         } => {
-            let result = written(
-                side,
-                dst,
-                move_value(kind, constant, regs.get(side, dst)),
-                0,
-            );
-            Effects {
-                result,
-                ..only_wait(0)
-            }
+            let value = move_value(kind, constant, regs.get(side, dst));
+            written(side, dst, value, 0)
         }
-        Op::Branch { field, .. } => Effects {
-            target: Some(displaced(at, 21, field)),
-            ..only_wait(0)
-        },
+        _ => unreachable!(),
+    }
+}
+
+/// What a branch does.
+fn branch(op: Op, at: u32, next: u32, regs: &Regs) -> Effects
+    requires branches { is_branch op ≡ true }
+    requires fits { FitsOp op }
+    ensures row { result ≡ op_effects op at next regs.now }
+    ensures fits { FitsEffects result }
+{
+    match op {
+        Op::Branch { field, .. } => to(displaced(at, 21, field), 0),
         Op::Callp { side, field } => Effects {
             result: written(side, 3, next, 0),
-            target: Some(displaced(at, 21, field)),
-            ..only_wait(5)
+            ..to(displaced(at, 21, field), 5)
         },
-        Op::BranchNop { field, wait, .. } => Effects {
-            target: Some(displaced(at, 12, u32::from(field))),
-            ..only_wait(wait)
-        },
-        Op::BranchReg { cross, source } => Effects {
-            target: Some(regs.get(read_from(Side::B, cross), source)),
-            ..only_wait(0)
-        },
+        Op::BranchNop { field, wait, .. } => to(displaced(at, 12, u32::from(field)), wait),
+        Op::BranchReg { cross, source } => to(regs.get(read_from(Side::B, cross), source), 0),
         Op::BranchRegNop {
             cross,
             source,
             wait,
-        } => Effects {
-            target: Some(regs.get(read_from(Side::B, cross), source)),
-            ..only_wait(wait)
-        },
-        Op::AddKpc { field, wait, dst } => Effects {
-            result: written(Side::B, dst, displaced(at, 7, u32::from(field)), 0),
-            ..only_wait(wait)
-        },
-        Op::Nop { cycles } => only_wait(cycles - 1),
+        } => to(regs.get(read_from(Side::B, cross), source), wait),
+        _ => unreachable!(),
+    }
+}
+
+/// A branch to an address alone.
+#[tactic(auto, unfolding(c6x_instr::specs::Rows::only_wait))]
+fn to(address: u32, wait: u8) -> Effects
+    requires { wait ≤ 8 }
+    ensures alone { result ≡ record (only_wait_of wait) { target = Some address } }
+    ensures fits { FitsEffects result }
+{
+    Effects {
+        target: Some(address),
+        ..only_wait(wait)
+    }
+}
+
+/// What a load or a store does.
+fn access(op: Op, regs: &Regs) -> Effects
+    requires accesses { is_access op ≡ true }
+    requires fits { FitsOp op }
+    ensures row { (at next : ℕ) → result ≡ op_effects op at next regs.now }
+    ensures fits { FitsEffects result }
+{
+    match op {
         Op::Short {
             access,
             unit_side,
@@ -136,16 +170,9 @@ fn operation(op: Op, at: u32, next: u32, regs: &Regs) -> Effects
             offset,
             base,
             register,
-        } => {
-            let old = regs.get(unit_side, base);
-            let new = changed(mode, old, distance(access, unit_side, mode, offset, regs));
-            let address = if keeps(mode) { old } else { new };
-            Effects {
-                update: updated(mode, unit_side, base, new),
-                access: access_to(access, value_side, register, address, regs),
-                ..only_wait(0)
-            }
-        }
+        } => short(
+            access, unit_side, value_side, mode, offset, base, register, regs,
+        ),
         Op::Long {
             access,
             value_side,
@@ -155,17 +182,39 @@ fn operation(op: Op, at: u32, next: u32, regs: &Regs) -> Effects
         } => {
             let base = regs.get(Side::B, if base15 { 15 } else { 14 });
             let distance = u32::from(size(access)) * u32::from(offset);
+            let address = base.wrapping_add(distance);
             Effects {
-                access: access_to(
-                    access,
-                    value_side,
-                    register,
-                    base.wrapping_add(distance),
-                    regs,
-                ),
+                access: access_to(access, value_side, register, address, regs),
                 ..only_wait(0)
             }
         }
+        _ => unreachable!(),
+    }
+}
+
+/// What a short load or store does.
+fn short(
+    access: Access,
+    unit_side: Side,
+    value_side: Side,
+    mode: u8,
+    offset: u8,
+    base: u8,
+    register: u8,
+    regs: &Regs,
+) -> Effects
+    requires { (mode < 16) × (offset < 32) × (base < 32) × (register < 32) }
+    ensures row { (at next : ℕ) → result
+        ≡ op_effects (Op.Short access unit_side value_side mode offset base register) at next regs.now }
+    ensures fits { FitsEffects result }
+{
+    let old = regs.get(unit_side, base);
+    let new = changed(mode, old, distance(access, unit_side, mode, offset, regs));
+    let address = if keeps(mode) { old } else { new };
+    Effects {
+        update: updated(mode, unit_side, base, new),
+        access: access_to(access, value_side, register, address, regs),
+        ..only_wait(0)
     }
 }
 

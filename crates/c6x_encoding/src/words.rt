@@ -1,4 +1,5 @@
-ghost use Rattle.std.specs.Prelude.{◌≡◌, ℕ, ◌+◌, ◌≤◌};
+ghost use Rattle.std.specs.Prelude.{◌≡◌, ℕ, ◌+◌, ◌≤◌, Bool, true};
+ghost use Rattle.c6x_instr.specs.Families.{is_access, is_computing};
 ghost use Rattle.c6x_instr.specs.Spelling.{first_bits, is_constant, is_part, Mode, Count};
 ghost use Rattle.c6x_encoding.specs.Encoded.{encoded, joined_fields, two_fields, layout_of};
 
@@ -18,32 +19,7 @@ pub fn word_of(instr: &Instr) -> Option<u32>
         chained: instr.chained,
     };
     match instr.op {
-        Op::Two {
-            unit,
-            arith,
-            side,
-            cross,
-            first,
-            second,
-            dst,
-        } => {
-            let operands = Operands {
-                condition: condition_number(head.condition),
-                dst: dst as u32,
-                second: second as u32,
-                first: first_number(first),
-                cross: bit(cross),
-                side: side_number(side),
-                chained: bit(head.chained),
-            };
-            two_word(unit, two_bits(unit, arith, has_constant(first))?, operands)
-        }
-        Op::Move {
-            kind,
-            side,
-            constant,
-            dst,
-        } => move_word(head, kind, side, constant, dst),
+        Op::Two { .. } | Op::Move { .. } => computing_word(head, instr.op),
         Op::Branch { side, field } => branch_word(head, side, field),
         Op::Callp { side, field } => callp_word(head, side, field),
         Op::BranchNop { side, field, wait } => branch_nop_word(head, side, field, wait),
@@ -55,6 +31,41 @@ pub fn word_of(instr: &Instr) -> Option<u32>
         } => branch_reg_nop_word(head, cross, source, wait),
         Op::AddKpc { field, wait, dst } => add_kpc_word(head, field, wait, dst),
         Op::Nop { cycles } => nop_word(head, cycles),
+        Op::Short { .. } | Op::Long { .. } => access_word(head, instr.op),
+    }
+}
+
+/// The word of an operation that only computes a value.
+fn computing_word(head: Head, op: Op) -> Option<u32>
+    requires { is_computing op ≡ true }
+    ensures { result ≡ encoded (record { condition = head.condition; op = op; chained = head.chained }) }
+{
+    match op {
+        Op::Two {
+            unit,
+            arith,
+            side,
+            cross,
+            first,
+            second,
+            dst,
+        } => operation_word(head, unit, arith, side, cross, first, second, dst),
+        Op::Move {
+            kind,
+            side,
+            constant,
+            dst,
+        } => move_word(head, kind, side, constant, dst),
+        _ => unreachable!(),
+    }
+}
+
+/// The word of a load or a store.
+fn access_word(head: Head, op: Op) -> Option<u32>
+    requires { is_access op ≡ true }
+    ensures { result ≡ encoded (record { condition = head.condition; op = op; chained = head.chained }) }
+{
+    match op {
         Op::Short {
             access,
             unit_side,
@@ -75,7 +86,38 @@ pub fn word_of(instr: &Instr) -> Option<u32>
             offset,
             register,
         } => { long_word(head, access, value_side, base15, offset, register) }
+        _ => unreachable!(),
     }
+}
+
+/// The word of an operation on two operands.
+fn operation_word(
+    head: Head,
+    unit: UnitKind,
+    arith: Arith,
+    side: Side,
+    cross: bool,
+    first: First,
+    second: u8,
+    dst: u8,
+) -> Option<u32>
+    ensures { result
+        ≡ encoded (record {
+          condition = head.condition;
+          op = Op.Two unit arith side cross first second dst;
+          chained = head.chained;
+        }) }
+{
+    let operands = Operands {
+        condition: condition_number(head.condition),
+        dst: dst as u32,
+        second: second as u32,
+        first: first_number(first),
+        cross: bit(cross),
+        side: side_number(side),
+        chained: bit(head.chained),
+    };
+    two_word(unit, two_bits(unit, arith, has_constant(first))?, operands)
 }
 
 fn first_number(first: First) -> u32

@@ -4,3 +4,4 @@ pub mod Decoded
 pub mod Values
 pub mod Rows
 pub mod Bounds
+pub mod Families
