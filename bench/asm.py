@@ -9,11 +9,10 @@ best of five.
 """
 import os
 import random
-import shutil
-import subprocess
 import sys
 import tempfile
-import time
+
+from measuring import grown, peer, program_of, seconds
 
 ROWS = [
     "ADD .L{n} {s}{a},{s}{b},{s}{c}",
@@ -47,30 +46,8 @@ def program(count, gnu):
     return "\n".join(lines) + "\n"
 
 
-def seconds(words, folder):
-    best = None
-    for _ in range(5):
-        start = time.perf_counter()
-        subprocess.run(words, cwd=folder, check=True, capture_output=True)
-        taken = time.perf_counter() - start
-        best = taken if best is None else min(best, taken)
-    return best
-
-
-def tool_on_path(name):
-    for target in ("tic6x-elf", "tic6x-uclinux"):
-        found = shutil.which(f"{target}-{name}")
-        if found:
-            return found
-    return None
-
-
 def main():
-    if len(sys.argv) < 2:
-        print("bench/asm.py: give the path of the built c6x")
-        return 2
-    ours = os.path.abspath(sys.argv[1])
-    gas = sys.argv[2] if len(sys.argv) > 2 else tool_on_path("as")
+    ours, gas = program_of("asm"), peer("as")
     before, status = None, 0
     with tempfile.TemporaryDirectory() as folder:
         for count in (10_000, 20_000, 40_000):
@@ -78,11 +55,9 @@ def main():
                 with open(os.path.join(folder, name), "w") as out:
                     out.write(program(count, gnu))
             taken = seconds([ours, "as", "c.s", "c.o"], folder)
-            line = f"{count} instructions: c6x {taken * 1000:.0f} ms"
-            if before is not None:
-                line += f", {taken / before:.2f} times that of half as many"
-                status |= taken / before > 2.2
-            before = taken
+            times, fast = grown(taken, before)
+            line = f"{count} instructions: c6x {taken * 1000:.0f} ms{times}"
+            before, status = taken, status | fast
             if gas is None:
                 line += "; no tic6x assembler is here"
             else:

@@ -13,7 +13,7 @@ import subprocess
 import sys
 import tempfile
 
-from asm import seconds, tool_on_path
+from measuring import grown, peer, program_of, seconds
 
 SCRIPT = "SECTIONS { .text 0x10000 : { *(.text) } .data 0x400000 : { __c6xabi_DSBT_BASE = .; . += 256; *(.neardata) } }\n"
 
@@ -54,11 +54,7 @@ def made(folder, ours, count, objects):
 
 
 def main():
-    if len(sys.argv) < 2:
-        print("bench/ld.py: give the path of the built c6x")
-        return 2
-    ours = os.path.abspath(sys.argv[1])
-    gnu = sys.argv[2] if len(sys.argv) > 2 else tool_on_path("ld")
+    ours, gnu = program_of("ld"), peer("ld")
     status = 0
     with tempfile.TemporaryDirectory() as folder:
         with open(os.path.join(folder, "script"), "w") as out:
@@ -68,11 +64,9 @@ def main():
             for count in (10_000, 20_000, 40_000):
                 names = made(folder, ours, count, objects)
                 taken = seconds([ours, "ld", "plan", "c.out"], folder)
-                line = f"{count} instructions in {objects} objects: c6x {taken * 1000:.1f} ms"
-                if before is not None:
-                    line += f", {taken / before:.2f} times that of half as many"
-                    status |= taken / before > 2.2
-                before = taken
+                times, fast = grown(taken, before)
+                line = f"{count} instructions in {objects} objects: c6x {taken * 1000:.1f} ms{times}"
+                before, status = taken, status | fast
                 if gnu is None:
                     line += "; no tic6x linker is here"
                 else:

@@ -16,6 +16,8 @@ import sys
 import tempfile
 from pathlib import Path
 
+from measuring import program_of, write
+
 EXAMPLE = Path(__file__).resolve().parent.parent / "examples" / "one"
 TEXT, DATA = 0x00010000, 0x01000000
 LOCAL, GLOBAL, ABS32 = 0, 1, 1
@@ -83,11 +85,6 @@ def best(program, folder, status):
     return min(seconds for seconds, _ in runs), min(most for _, most in runs)
 
 
-def write(folder, name, data):
-    with open(os.path.join(folder, name), "wb") as out:
-        out.write(data)
-
-
 def shared(folder):
     """Sixteen processes of one program that needs 31 libraries, all with fields on each other's names."""
     names = ["app.out"] + [f"lib{k}.so" for k in range(1, 32)]
@@ -118,10 +115,7 @@ def shown(what, seconds, most, size):
 
 
 def main():
-    if len(sys.argv) < 2:
-        print("bench/map.py: give the path of the built c6x")
-        return 2
-    program = os.path.abspath(sys.argv[1])
+    program = program_of("map")
     with tempfile.TemporaryDirectory() as folder:
         for name in ("one.plan", "app.out"):
             shutil.copy(EXAMPLE / name, folder)

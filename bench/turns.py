@@ -12,6 +12,8 @@ import os
 import sys
 import tempfile
 
+from measuring import program_of, write
+
 CYCLES = 4_000_000
 PROCESSES = (1, 4, 16)
 QUANTA = (1, 100, 65_535)
@@ -40,8 +42,7 @@ def nanoseconds(program, folder, processes, quantum):
     limits = (1, CYCLES // processes)
     for limit in limits:
         name = f"{processes}-{quantum}-{limit}.plan"
-        with open(os.path.join(folder, name), "w") as out:
-            out.write(plan(processes, quantum, limit))
+        write(folder, name, plan(processes, quantum, limit).encode())
         seconds[limit], lines[limit] = cycles.spent([program, "run", name], folder)
         if b"limit cycles %d" % limit not in lines[limit]:
             sys.exit(f"bench/turns.py: not that answer: {lines[limit]}")
@@ -50,13 +51,9 @@ def nanoseconds(program, folder, processes, quantum):
 
 
 def main():
-    if len(sys.argv) < 2:
-        print("bench/turns.py: give the path of the built c6x")
-        return 2
-    program = os.path.abspath(sys.argv[1])
+    program = program_of("turns")
     with tempfile.TemporaryDirectory() as folder:
-        with open(os.path.join(folder, "app.out"), "wb") as out:
-            out.write(cycles.module(cycles.moves()))
+        write(folder, "app.out", cycles.module(cycles.moves()))
         cost = {}
         for processes in PROCESSES:
             for quantum in QUANTA:

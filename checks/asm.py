@@ -14,7 +14,7 @@ import subprocess
 import sys
 import tempfile
 
-from comparing import command, compared, outcome, store, summed, tool, verdict
+from comparing import arguments, compared, outcome, store, summed, tools, verdict
 
 ARITHMETIC = {
     "L": ["ADD", "SUB", "AND", "OR", "XOR", "CMPEQ", "CMPGT", "CMPLT", "CMPGTU", "CMPLTU"],
@@ -464,12 +464,8 @@ def against_gas(program, gas, objcopy, count):
 
 
 def main():
-    if len(sys.argv) < 3:
-        print("checks/asm.py: give the path of a reference model, and that of the built c6x")
-        return 2
-    model, program = command(sys.argv[1]), command(sys.argv[2])
-    count = int(sys.argv[3]) if len(sys.argv) > 3 else 5000
-    gas, objcopy = (sys.argv[4], sys.argv[5]) if len(sys.argv) > 5 else (tool("as"), tool("objcopy"))
+    model, program, count, rest = arguments("asm", 5000)
+    gas, objcopy = tools(rest, "as", "objcopy")
     if gas and objcopy:
         words, apart = against_gas(program, gas, objcopy, 10000)
         print(f"gas: {words} instructions, " + verdict(apart))

@@ -22,6 +22,19 @@ def tool(name):
     return None
 
 
+def tools(given, *names):
+    """The tools whose paths are given, or else those on the path, and `None` for those that are not there."""
+    return given[:len(names)] if len(given) >= len(names) else [tool(name) for name in names]
+
+
+def arguments(script, count):
+    """The model, the program, how many cases, COUNT if that is not given, and the words that follow."""
+    if len(sys.argv) < 3:
+        print(f"checks/{script}.py: give the path of a reference model, and that of the built c6x")
+        sys.exit(2)
+    return command(sys.argv[1]), command(sys.argv[2]), int(sys.argv[3]) if len(sys.argv) > 3 else count, sys.argv[4:]
+
+
 def store(folder, name, data):
     with open(os.path.join(folder, name), "wb") as out:
         out.write(data)
@@ -63,10 +76,44 @@ def compared(one, count, told):
     return rules, different, faulty_cases
 
 
+def store_lines(folder, name, lines, rng):
+    """Stores the lines of a plan, which end one way or the other, the last of them maybe not."""
+    end = rng.choice(["\n", "\n", "\r\n"])
+    store(folder, name, (end.join(lines) + rng.choice([end, ""])).encode())
+
+
+def tallied(one, numbers):
+    """Compares the runs of cases, four at a time: how the processes end, and how many cases differ. `one` gives of a number
+    the model's report, and what is to be printed where the program's is another."""
+    ends, different = {}, 0
+    with ThreadPoolExecutor(max_workers=4) as pool:
+        for report, difference in pool.map(one, numbers):
+            for end in ends_of(report) or ["none"]:
+                ends[end] = ends.get(end, 0) + 1
+            if difference:
+                different += 1
+                print(difference)
+    return ends, different
+
+
+def ends_of(report):
+    """How the processes of a report ended: the word of each line, and for a fault its number."""
+    ends = []
+    for line in report.split(b"\n"):
+        words = line.split()
+        if len(words) > 2 and words[0] == b"process" and words[2] in (b"exit", b"fault", b"limit"):
+            ends.append((words[3] if words[2] == b"fault" else words[2]).decode())
+    return ends
+
+
+def counts(met):
+    """How often each was met."""
+    return ", ".join(f"{what} {times}" for what, times in sorted(met.items()))
+
+
 def summed(what, count, rules, different, faulty):
     """The last line of a script."""
-    met = ", ".join(f"{rule} {times}" for rule, times in sorted(rules.items()))
-    return f"{count} {what}, {faulty} with a fault: {met}; " + verdict(different)
+    return f"{count} {what}, {faulty} with a fault: {counts(rules)}; " + verdict(different)
 
 
 def verdict(different):
@@ -79,6 +126,17 @@ def shown(data):
     for byte in data:
         total = ((total ^ byte) * 0x01000193) & 0xFFFFFFFF
     return " %d %08x" % (len(data), total)
+
+
+def modules_of(script, command, files, plans):
+    """The modules that the model links of object files, `a.o` and the next letters, by each of these link plans."""
+    shelf = {b"%c.o" % (97 + number): file for number, file in enumerate(files)}
+    for number, plan in enumerate(plans):
+        shelf[b"p%d" % number] = plan
+        result = command([b"ld", b"p%d" % number, b"m%d" % number], shelf)
+        if result.status != 0:
+            sys.exit("%s: the model does not link: %r" % (script, result.err))
+    return [bytes(shelf[b"m%d" % number]) for number in range(len(plans))]
 
 
 def answers(script, program, cases, answer, kind_of):

@@ -24,17 +24,6 @@ def text_of(crate):
     return "\n".join(found)
 
 
-def named_below():
-    """All that each line names, the kit's crates with it."""
-    found = {}
-    with open(f"{gate_times.TOP}/crates.txt") as it:
-        for line in it:
-            name, colon, below = line.partition("#")[0].partition(":")
-            if colon:
-                found[name.split()[0]] = below.split()
-    return found
-
-
 def layers(below):
     """The crates by their layer."""
     height = {}
@@ -53,7 +42,7 @@ def main():
     for at, names in enumerate(layers(gate_times.crates())):
         print(f"{at:2}  {' '.join(names)}")
     uncited = 0
-    for name, below in named_below().items():
+    for name, below in gate_times.named_below().items():
         text = text_of(name)
         lacking = [it for it in below if not re.search(rf"\b{it}\b", text)]
         uncited += len(lacking)

@@ -70,13 +70,8 @@ def seeds():
 
 def linked():
     """Modules that the model links."""
-    shelf = {b"%c.o" % (97 + n): elf.write_file(asm.assemble(text)) for n, text in enumerate(SOURCES)}
-    for number, plan in enumerate(PLANS):
-        shelf[b"p%d" % number] = plan
-        result = command.command([b"ld", b"p%d" % number, b"m%d" % number], shelf)
-        if result.status != 0:
-            sys.exit("checks/elf.py: the model does not link: %r" % result.err)
-    return [bytes(shelf[b"m%d" % number]) for number in range(len(PLANS))]
+    files = [elf.write_file(asm.assemble(text)) for text in SOURCES]
+    return modules_of("checks/elf.py", command.command, files, PLANS)
 
 
 def mutated(rng, data):

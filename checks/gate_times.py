@@ -101,14 +101,20 @@ class Watch(threading.Thread):
         return found
 
 
-def crates():
-    """The crates of crates.txt, each with those that it stands on."""
+def named_below():
+    """The crates of crates.txt, each with all that its line names, the kit's crates with it."""
     found = {}
     with open(f"{TOP}/crates.txt") as it:
         for line in it:
             name, colon, below = line.partition("#")[0].partition(":")
             if colon:
                 found[name.split()[0]] = below.split()
+    return found
+
+
+def crates():
+    """The crates of crates.txt, each with those of them that it stands on."""
+    found = named_below()
     return {name: [it for it in below if it in found] for name, below in found.items()}
 
 

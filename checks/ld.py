@@ -19,7 +19,7 @@ import sys
 import tempfile
 
 import asm
-from comparing import command, compared, load, outcome, store, summed, tool, verdict
+from comparing import arguments, compared, counts, load, outcome, store, store_lines, summed, tools, verdict
 
 WRITE, ALLOC, EXEC = 1, 2, 4
 PROGBITS, SYMTAB, STRTAB, RELA, NOBITS, REL = 1, 2, 3, 4, 8, 9
@@ -391,8 +391,7 @@ def files_of(number, folder, program, gas):
         files[at] = broken_file(rng, files[at])
     for at, file in enumerate(files):
         store(folder, f"{at}.o", file)
-    end = rng.choice(["\n", "\n", "\r\n"])
-    store(folder, "plan", (end.join(lines) + rng.choice([end, ""])).encode())
+    store_lines(folder, "plan", lines, rng)
     return faulty
 
 
@@ -669,17 +668,12 @@ def against_readelf(program, readelf, count):
 
 
 def main():
-    if len(sys.argv) < 3:
-        print("checks/ld.py: give the path of a reference model, and that of the built c6x")
-        return 2
-    model, program = command(sys.argv[1]), command(sys.argv[2])
-    count = int(sys.argv[3]) if len(sys.argv) > 3 else 5000
-    gas, gnu, readelf = sys.argv[4:7] if len(sys.argv) > 6 else map(tool, ("as", "ld", "readelf"))
+    model, program, count, rest = arguments("ld", 5000)
+    gas, gnu, readelf = tools(rest, "as", "ld", "readelf")
     apart = 0
     if gnu:
         met, apart, done = against_gnu(program, gnu, min(count, 500))
-        kinds = ", ".join(f"kind {kind} {times}" for kind, times in sorted(met.items()))
-        print(f"GNU ld: {done} programs, fields in both files: {kinds}; " + verdict(apart))
+        print(f"GNU ld: {done} programs, fields in both files by kind: {counts(met)}; " + verdict(apart))
     else:
         print("GNU ld: no tic6x binutils are here")
     if readelf:

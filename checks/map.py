@@ -14,7 +14,7 @@ import subprocess
 import sys
 import tempfile
 
-from comparing import command, compared, outcome, store, summed, tool, verdict
+from comparing import arguments, compared, outcome, store, store_lines, summed, tools, verdict
 
 TEXT, DATA = 0x00010000, 0x00012000
 LOCAL, GLOBAL, WEAK = 0, 1, 2
@@ -276,8 +276,7 @@ def files_of(number, folder):
         files[at] = broken_file(rng, files[at])
     for at, file in enumerate(files):
         store(folder, f"{at}.out", file)
-    end = rng.choice(["\n", "\n", "\r\n"])
-    store(folder, "run.plan", (end.join(lines) + rng.choice([end, ""])).encode())
+    store_lines(folder, "run.plan", lines, rng)
     return faulty
 
 
@@ -361,12 +360,8 @@ def against_gnu(model, program, gas, gnu):
 
 
 def main():
-    if len(sys.argv) < 3:
-        print("checks/map.py: give the path of a reference model, and that of the built c6x")
-        return 2
-    model, program = command(sys.argv[1]), command(sys.argv[2])
-    count = int(sys.argv[3]) if len(sys.argv) > 3 else 5000
-    gas, gnu = (sys.argv[4], sys.argv[5]) if len(sys.argv) > 5 else (tool("as"), tool("ld"))
+    model, program, count, rest = arguments("map", 5000)
+    gas, gnu = tools(rest, "as", "ld")
     apart = 0
     if gas and gnu:
         apart = against_gnu(model, program, gas, gnu)

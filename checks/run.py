@@ -8,13 +8,12 @@ the whole instruction table, in packets of up to eight words, with conditions, l
 areas, both gates, and words that spell nothing. Every hundredth puts its output full. The programs are the same at each
 run. The last line but one counts how they end.
 """
-import os
 import random
 import struct
-import subprocess
 import sys
 import tempfile
-from concurrent.futures import ThreadPoolExecutor
+
+from comparing import arguments, counts, outcome, store, tallied, verdict
 
 TEXT, DATA = 0x00010000, 0x00012000
 BOARD = 0x80000000
@@ -234,55 +233,22 @@ def case(number):
     return module(words, data), plan, words
 
 
-def command(path):
-    return [sys.executable, os.path.abspath(path)] if path.endswith(".py") else [os.path.abspath(path)]
-
-
-def run(program, folder):
-    done = subprocess.run(program + ["run", "one.plan"], cwd=folder, capture_output=True, timeout=120)
-    return done.returncode, done.stdout, done.stderr
-
-
-def ending(text):
-    """How the process ended: the word of its line, and for a fault its number."""
-    for line in text.split(b"\n"):
-        words = line.split()
-        if words[:2] == [b"process", b"p"] and len(words) > 2 and words[2] in (b"exit", b"fault", b"limit"):
-            return (words[3] if words[2] == b"fault" else words[2]).decode()
-    return "none"
-
-
 def main():
-    if len(sys.argv) < 3:
-        print("checks/run.py: give the path of a reference model, and that of the built c6x")
-        return 2
-    model, program = command(sys.argv[1]), command(sys.argv[2])
-    count = int(sys.argv[3]) if len(sys.argv) > 3 else 5000
-    first = int(sys.argv[4]) if len(sys.argv) > 4 else 0
+    model, program, count, rest = arguments("run", 5000)
+    first = int(rest[0]) if rest else 0
 
-    def differs(number):
+    def one(number):
         file, plan, words = case(number)
         with tempfile.TemporaryDirectory() as folder:
-            with open(os.path.join(folder, "app.out"), "wb") as out:
-                out.write(file)
-            with open(os.path.join(folder, "one.plan"), "w") as out:
-                out.write(plan)
-            wanted, got = run(model, folder), run(program, folder)
-        return number, words, plan, wanted, got
+            store(folder, "app.out", file)
+            store(folder, "one.plan", plan.encode())
+            wanted, got = outcome(model, folder, ["run", "one.plan"]), outcome(program, folder, ["run", "one.plan"])
+        spelled = " ".join("%08x" % word for word in words)
+        return wanted[1], None if wanted == got else f"program {number}: {spelled}\n{plan}wanted {wanted}\ngot    {got}"
 
-    ends, different = {}, 0
-    with ThreadPoolExecutor(max_workers=4) as pool:
-        for number, words, plan, wanted, got in pool.map(differs, range(first, first + count)):
-            end = ending(wanted[1])
-            ends[end] = ends.get(end, 0) + 1
-            if wanted != got:
-                different += 1
-                print(f"program {number}: {' '.join('%08x' % w for w in words)}")
-                print(plan, end="")
-                print("wanted", *wanted)
-                print("got   ", *got)
-    print(f"{count} programs, " + (f"{different} differences" if different else "no difference found"))
-    print("ends:", ", ".join(f"{end} {times}" for end, times in sorted(ends.items())))
+    ends, different = tallied(one, range(first, first + count))
+    print(f"{count} programs, " + verdict(different))
+    print("ends:", counts(ends))
     return 1 if different else 0
 
 

@@ -9,14 +9,13 @@ named policies, with a seed and a quantum of its own; the model and the program 
 the same under every policy. PROGRAM assembles and links the modules. The cases are the same at each run. The last line
 counts how the processes end.
 """
-import os
 import random
 import subprocess
 import sys
 import tempfile
-from concurrent.futures import ThreadPoolExecutor
+from collections import Counter
 
-from comparing import command, outcome, store, verdict
+from comparing import arguments, counts, outcome, store, tallied, verdict
 
 LIBRARIES, PROGRAMS, TABLE = 8, 24, 10
 POLICIES = ["round", "last", "drawn"]
@@ -172,51 +171,31 @@ def answers(program, folder, name, seed):
     return [outcome(program, folder, ["run", name, "--policy", policy, "--seed", seed])[:3] for policy in POLICIES]
 
 
-def ends_of(text):
-    """How the processes ended: the word of each line, and for a fault its number."""
-    ends = []
-    for line in text.split(b"\n"):
-        words = line.split()
-        if len(words) > 2 and words[0] == b"process" and words[2] in (b"exit", b"fault", b"limit"):
-            ends.append((words[3] if words[2] == b"fault" else words[2]).decode())
-    return ends
-
-
-def compared(model, program, folder, numbers, needs, ends):
-    """How many of these cases differ."""
+def compared(model, program, folder, numbers, needs):
+    """How the processes of these cases end, and how many cases differ."""
     def one(number):
         text, seed = plan(number, needs)
         name = f"{number}.plan"
         store(folder, name, text.encode())
-        return number, text, seed, answers(model, folder, name, seed), answers(program, folder, name, seed)
+        wanted, got = answers(model, folder, name, seed), answers(program, folder, name, seed)
+        same = wanted == got and all(answer == got[0] for answer in got)
+        lines = [f"{policy}: wanted {it}\n{policy}: got    {other}" for policy, it, other in zip(POLICIES, wanted, got)]
+        return wanted[0][1], None if same else f"case {number}, seed {seed}:\n{text}" + "\n".join(lines)
 
-    different = 0
-    with ThreadPoolExecutor(max_workers=4) as pool:
-        for number, text, seed, wanted, got in pool.map(one, numbers):
-            for end in ends_of(wanted[0][1]) or [f"status {wanted[0][0]}"]:
-                ends[end] = ends.get(end, 0) + 1
-            if wanted != got or any(answer != got[0] for answer in got):
-                different += 1
-                print(f"case {number}, seed {seed}:\n{text}", end="")
-                for policy, one_wanted, one_got in zip(POLICIES, wanted, got):
-                    print(f"{policy}: wanted {one_wanted}\n{policy}: got    {one_got}")
-    return different
+    return tallied(one, numbers)
 
 
 def main():
-    if len(sys.argv) < 3:
-        print("checks/turns.py: give the path of a reference model, and that of the built c6x")
-        return 2
-    model, program = command(sys.argv[1]), command(sys.argv[2])
-    count = int(sys.argv[3]) if len(sys.argv) > 3 else 3000
-    first = int(sys.argv[4]) if len(sys.argv) > 4 else 0
-    ends, different = {}, 0
+    model, program, count, rest = arguments("turns", 3000)
+    first = int(rest[0]) if rest else 0
+    ends, different = Counter(), 0
     for start in range(first, first + count, TOGETHER):
         with tempfile.TemporaryDirectory() as folder:
             made = Modules(program, folder, start // TOGETHER)
-            different += compared(model, program, folder, range(start, min(start + TOGETHER, first + count)), made.needs, ends)
-    counted = ", ".join(f"{end} {times}" for end, times in sorted(ends.items()))
-    print(f"{count} plans under {len(POLICIES)} policies: {counted}; " + verdict(different))
+            met, apart = compared(model, program, folder, range(start, min(start + TOGETHER, first + count)), made.needs)
+        ends.update(met)
+        different += apart
+    print(f"{count} plans under {len(POLICIES)} policies: {counts(ends)}; " + verdict(different))
     return 1 if different else 0
 
 
