@@ -18,6 +18,7 @@ import tempfile
 
 sys.path.insert(0, os.path.join(os.path.dirname(os.path.abspath(__file__)), "..", "checks"))
 from map import Module  # noqa: E402
+from measuring import program_of, write  # noqa: E402
 from run import BOARD, SIDE_B, addk, branch_nop, branch_nop_to, module, mvk, short, two  # noqa: E402
 
 LIMITS = (1_000_000, 10_000_000)
@@ -95,13 +96,11 @@ def store_plans(words, libraries, folder):
     plain = module(words)
     files = linked(words, libraries) if libraries else {"app.out": plain}
     for name, file in files.items() | {("plain.out", plain)}:
-        with open(os.path.join(folder, name), "wb") as out:
-            out.write(file)
+        write(folder, name, file)
     lines = [f"module {'app' if name == 'app.out' else name} {name}" for name in files]
     for limit in (1,) + LIMITS:
         process = f"process p app limit {limit} stack 64 arg {BOARD}"
-        with open(os.path.join(folder, f"{limit}.plan"), "w") as out:
-            out.write("\n".join(["c6x-plan 1", "quantum 10"] + lines + [process, ""]))
+        write(folder, f"{limit}.plan", "\n".join(["c6x-plan 1", "quantum 10"] + lines + [process, ""]).encode())
 
 
 def process_line(text):
@@ -114,15 +113,20 @@ def processor_time():
 
 
 def spent(command, folder):
-    """The processor seconds of the best of three runs, and the process line or what stopped the run."""
-    best, line = None, b""
+    """The processor seconds of the best of three runs."""
+    best = None
     for _ in range(3):
         before = processor_time()
-        done = subprocess.run(command, cwd=folder, capture_output=True, timeout=600)
+        subprocess.run(command, cwd=folder, capture_output=True, timeout=600)
         used = processor_time() - before
-        line = process_line(done.stdout) or done.stderr
         best = used if best is None else min(best, used)
-    return best, line
+    return best
+
+
+def answer(command, folder):
+    """The process line without its output's size, or what stopped the run."""
+    done = subprocess.run(command, cwd=folder, capture_output=True, timeout=600)
+    return process_line(done.stdout).replace(b" output 0", b"") or done.stderr
 
 
 def commands(program, yardstick, limit):
@@ -131,27 +135,30 @@ def commands(program, yardstick, limit):
         yield "yardstick", [yardstick, "plain.out", str(BOARD), str(limit)]
 
 
+def compare_answers(program, yardstick, folder):
+    """Stops where the runs do not all go on to the limit, and say the same of it."""
+    for limit in (1,) + LIMITS:
+        lines = {answer(command, folder) for _, command in commands(program, yardstick, limit)}
+        if len(lines) != 1 or b"limit cycles %d" % limit not in next(iter(lines)):
+            sys.exit(f"bench/run.py: not one answer: {lines}")
+
+
 def measure(program, yardstick, words, libraries, folder):
     """Nanoseconds a cycle at each limit, by the name of the program."""
     store_plans(words, libraries, folder)
-    start = {name: spent(command, folder)[0] for name, command in commands(program, yardstick, 1)}
-    found = {name: [] for name in start}
-    for limit in LIMITS:
-        lines = set()
+    compare_answers(program, yardstick, folder)
+    found = {}
+    for limit in (1,) + LIMITS:
         for name, command in commands(program, yardstick, limit):
-            seconds, line = spent(command, folder)
-            lines.add(line.replace(b" output 0", b""))
-            found[name].append((seconds - start[name]) / limit * 1e9)
-        if len(lines) != 1 or b"limit cycles %d" % limit not in next(iter(lines)):
-            sys.exit(f"bench/run.py: not one answer: {lines}")
-    return found
+            found.setdefault(name, []).append(spent(command, folder))
+    return {
+        name: [(seconds - start) / limit * 1e9 for limit, seconds in zip(LIMITS, more)]
+        for name, (start, *more) in found.items()
+    }
 
 
 def main():
-    if len(sys.argv) < 2:
-        print("bench/run.py: give the path of the built c6x")
-        return 2
-    program = os.path.abspath(sys.argv[1])
+    program = program_of("run")
     yardstick = os.path.abspath(sys.argv[2]) if len(sys.argv) > 2 else None
     for name, (words, libraries) in LOOPS.items():
         with tempfile.TemporaryDirectory() as folder:
