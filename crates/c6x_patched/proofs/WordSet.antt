@@ -32,7 +32,7 @@ whole_patch w u fw fu = record { field = omega arith; others = λ place out. eit
     either place (inr high) = high_same u w place fu fw (omega arith)
 
 -- a word and its rest modulo 2^32 have the same bytes
-same_bytes : (v : ℕ) → to_le_bytes w32 (v % 2 ^ 32) ≡ to_le_bytes w32 v
+pub same_bytes : (v : ℕ) → to_le_bytes w32 (v % 2 ^ 32) ≡ to_le_bytes w32 v
 same_bytes v =
     let a : v % 2 ^ 32 % 256 ≡ v % 256 = omega arith in
     let b : v % 2 ^ 32 / 256 % 256 ≡ v / 256 % 256 = omega arith in

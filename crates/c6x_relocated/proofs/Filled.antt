@@ -43,11 +43,13 @@ use Rattle.c6x_shift.specs.Shift.{moved_by}
 use Rattle.c6x_moved.proofs.Words.{start_sum}
 use Rattle.c6x_moved.specs.Holds.{HoldsAt}
 use Rattle.c6x_moved.specs.Moved.{moved_inputs, moved_symbol}
-use Rattle.c6x_relocated.specs.Filled.{Finding, HasLinkedFields, IsMember, address_in, definition_address, targets_in}
+use Rattle.c6x_relocated.specs.Filled.{Finding, IsMember, address_in, definition_address, targets_in}
 use Rattle.c6x_relocated.specs.Relocated.{IsLinkedModule, Stands, shifts_of}
+use Rattle.c6x_relocated.proofs.LinkedParts.{HasParts, has_parts}
 use Rattle.c6x_relocated.proofs.Segments.{data_definition, text_definition}
 use Rattle.c6x_relocated.proofs.Targeted.{targeted}
-use Rattle.c6x_relocated.proofs.Words.{IsRead, all_read, fields_have, word_holds}
+use Rattle.c6x_relocated.proofs.Relas.{abs_holds, abs_rela, no_none}
+use Rattle.c6x_relocated.proofs.Words.{IsRead, all_read, fields_have}
 
 -- the text of a linked file is not empty
 second_laid : (a b : Laid) (ps : List Laid) → length b.bytes ≤ length (laid 0 (a ∷ b ∷ ps))
@@ -77,41 +79,12 @@ text_some p =
     omega (arith, some, second, same)
 
 -- the entry for the loader of an entry of the link
-kind_is : (e : Entry) → rela_kind (rela_of e) ≡ 1
-unfolding rela_of row_of
-kind_is e = omega arith
+abbrev rela_at : Entry → Rela
+rela_at e = abs_rela e.reference.inputs.p e.symbol (moved e.reference.inputs) e.start
 
-symbol_is : (e : Entry) → rela_symbol (rela_of e) ≡ e.symbol
-unfolding rela_of row_of
-symbol_is e = omega arith
-
-offset_is : (e : Entry) → (rela_of e).offset ≡ e.reference.inputs.p
-unfolding rela_of
-offset_is e = refl
-
-addend_is : (e : Entry) → cast_unsigned w32 (rela_of e).addend ≡ less (moved e.reference.inputs) e.start
+rela_is : (e : Entry) → rela_of e ≡ rela_at e
 unfolding rela_of dynamic_addend
-addend_is e = of_z-to_z w32 (less (moved e.reference.inputs) e.start) (omega arith)
-
-no_none : (e : Entry) → (rela_kind (rela_of e) == R_C6000_NONE) ≡ false
-no_none e = ap (λ n. n == R_C6000_NONE) (kind_is e)
-
-no_slot : (e : Entry) → (rela_kind (rela_of e) == R_C6000_JUMP_SLOT) ≡ false
-no_slot e = ap (λ n. n == R_C6000_JUMP_SLOT) (kind_is e)
-
-place_is : (e : Entry) → (field_of (rela_of e)).place ≡ e.reference.inputs.p
-unfolding field_of
-place_is e = offset_is e
-
-field_symbol : (e : Entry) → (field_of (rela_of e)).symbol ≡ e.symbol
-unfolding field_of
-field_symbol e = symbol_is e
-
-word_is : (e : Entry) (s : ℕ) → word_of (field_of (rela_of e)) s ≡ (s + less (moved e.reference.inputs) e.start) % 2 ^ 32
-unfolding word_of field_of
-word_is e s =
-    ap (λ b. if b then s else (s + cast_unsigned w32 (rela_of e).addend) % 2 ^ 32) (no_slot e)
-    ∙ ap (λ a. (s + a) % 2 ^ 32) (addend_is e)
+rela_is e = refl
 
 -- it is among those of the file
 pub record Splits (relas : List Rela) (r : Rela) : Type 0 where
@@ -122,7 +95,8 @@ pub record Splits (relas : List Rela) (r : Rela) : Type 0 where
 one_rela : (e : Entry) → is_dynamic e.reference ≡ true → relas_at e ≡ rela_of e ∷ []
 one_rela e is = ap (λ (b : Bool). if b then rela_of e ∷ [] else []) is
 
-dynamic_split : (before : List Entry) (e : Entry) (after : List Entry) → is_dynamic e.reference ≡ true → dynamic_relas (before ++ e ∷ after) ≡ dynamic_relas before ++ rela_of e ∷ dynamic_relas after
+dynamic_split : (before : List Entry) (e : Entry) (after : List Entry) → is_dynamic e.reference ≡ true
+    → dynamic_relas (before ++ e ∷ after) ≡ dynamic_relas before ++ rela_of e ∷ dynamic_relas after
 unfolding dynamic_relas
 dynamic_split before e after is = flat_map-append relas_at before (e ∷ after) ∙ ap (λ xs. dynamic_relas before ++ (xs ++ dynamic_relas after)) (one_rela e is)
 
@@ -130,7 +104,9 @@ pub relas_are : (w : Working) → (parts_of w).relas ≡ word_relas w ++ dynamic
 unfolding parts_of
 relas_are w = refl
 
-file_split : (w : Working) (before : List Entry) (e : Entry) (after : List Entry) → link_entries w ≡ before ++ e ∷ after → is_dynamic e.reference ≡ true → Splits ((parts_of w).relas ++ (parts_of w).jumps) (rela_of e)
+file_split : (w : Working) (before : List Entry) (e : Entry) (after : List Entry)
+    → link_entries w ≡ before ++ e ∷ after → is_dynamic e.reference ≡ true
+    → Splits ((parts_of w).relas ++ (parts_of w).jumps) (rela_of e)
 file_split w before e after split is =
     let mid : dynamic_relas (link_entries w) ≡ dynamic_relas before ++ rela_of e ∷ dynamic_relas after = ap dynamic_relas split ∙ dynamic_split before e after is in
     let one : (parts_of w).relas ≡ (word_relas w ++ dynamic_relas before) ++ rela_of e ∷ dynamic_relas after =
@@ -142,7 +118,14 @@ file_split w before e after split is =
     }
 
 -- the sum, by the segment of the symbol
-pub segment_sum : (f : Finding) (position : ℕ) (m : Module) (text base symbol start s a table : ℕ) (r : Region) → IsMember f position m text base → IsValid m → slice_get m.symbols 1 ≡ Some (record { name = []; value = TEXT_START; info = 3; other = 0; section = 1 }) → slice_get m.symbols 2 ≡ Some (record { name = []; value = table; info = 3; other = 0; section = 2 }) → TEXT_START ≡ m.text.vaddr → table ≡ m.memory.vaddr → 1 ≤ m.text.memsz → m.memory.vaddr < 2 ^ 32 → (r ≡ Text → symbol ≡ 1) → (r ≡ Text → start ≡ TEXT_START) → (r ≡ Data → symbol ≡ 2) → (r ≡ Data → start ≡ table) → (r ≡ Import → start ≡ 0) → (r ≡ Import → s ≡ 0) → not (is_fixed r) ≡ true → (definition_address f position m symbol + less ((s + a) % 2 ^ 32) start) % 2 ^ 32 ≡ (moved_symbol (shifts_of m text base) (definition_address f position m symbol) Absolute r s + a) % 2 ^ 32
+pub segment_sum : (f : Finding) (position : ℕ) (m : Module) (text base symbol start s a table : ℕ) (r : Region)
+    → IsMember f position m text base → IsValid m
+    → slice_get m.symbols 1 ≡ Some (record { name = []; value = TEXT_START; info = 3; other = 0; section = 1 })
+    → slice_get m.symbols 2 ≡ Some (record { name = []; value = table; info = 3; other = 0; section = 2 })
+    → TEXT_START ≡ m.text.vaddr → table ≡ m.memory.vaddr → 1 ≤ m.text.memsz → m.memory.vaddr < 2 ^ 32
+    → (r ≡ Text → symbol ≡ 1) → (r ≡ Text → start ≡ TEXT_START) → (r ≡ Data → symbol ≡ 2) → (r ≡ Data → start ≡ table)
+    → (r ≡ Import → start ≡ 0) → (r ≡ Import → s ≡ 0) → not (is_fixed r) ≡ true
+    → (definition_address f position m symbol + less ((s + a) % 2 ^ 32) start) % 2 ^ 32 ≡ (moved_symbol (shifts_of m text base) (definition_address f position m symbol) Absolute r s + a) % 2 ^ 32
 segment_sum f position m text base symbol start s a table Text member valid has1 has2 is1 is2 some low t1 t2 d1 d2 i1 i2 moves =
     let start_is : start ≡ TEXT_START = t2 refl in
     let there : definition_address f position m symbol ≡ moved_by (shift_of text m.text.vaddr) start =
@@ -169,43 +152,48 @@ moves_by true false true is = absurd (cc is)
 moves_by true true fixed is = absurd (cc is)
 moves_by false in_text fixed is = absurd (cc is)
 
-dynamic_moves : (kind : Option RelocKind) (in_text fixed : Bool) → is_dynamic_kind kind (not in_text && not fixed) ≡ true → not fixed ≡ true
+dynamic_moves : (kind : Option RelocKind) (in_text fixed : Bool)
+    → is_dynamic_kind kind (not in_text && not fixed) ≡ true → not fixed ≡ true
 dynamic_moves None in_text fixed is = absurd (cc is)
 dynamic_moves (Some kind) in_text fixed is = moves_by (is_word kind) in_text fixed is
-
-double_mod : (n : ℕ) → n % 2 ^ 32 % 2 ^ 32 ≡ n % 2 ^ 32
-double_mod n = omega arith
 
 pub table_is : (w : Working) → (parts_of w).table ≡ w.layout.table
 unfolding parts_of
 table_is w = refl
 
-pub filled_holds : (w : Working) (m : Module) → IsLinkedModule (parts_of w) m → HasLinkedFields (parts_of w) m → (board : Memory) (f : Finding) (position text base : ℕ) → board.base + length board.bytes < 2 ^ 32 → IsMember f position m text base → Stands board m text base (slot_word f.modules f.list f.bases) (address_in f) (targets_in f position m) → (before : List Entry) (e : Entry) (after : List Entry) → link_entries w ≡ before ++ e ∷ after → is_dynamic e.reference ≡ true → HoldsAt board (moved_by (shift_of base m.memory.vaddr) e.reference.inputs.p) ABS32 (moved_inputs (shifts_of m text base) (definition_address f position m e.symbol) Absolute e.reference)
-filled_holds w m linked has board f position text base ends member stands before e after split dynamic =
+pub filled_holds : (w : Working) (m : Module) → HasParts (parts_of w) m
+    → (board : Memory) (f : Finding) (position text base : ℕ) → board.base + length board.bytes < 2 ^ 32
+    → IsMember f position m text base
+    → Stands board m text base (slot_word f.modules f.list f.bases) (address_in f) (targets_in f position m)
+    → (before : List Entry) (e : Entry) (after : List Entry) → link_entries w ≡ before ++ e ∷ after
+    → is_dynamic e.reference ≡ true
+    → HoldsAt board (moved_by (shift_of base m.memory.vaddr) e.reference.inputs.p) ABS32 (moved_inputs (shifts_of m text base) (definition_address f position m e.symbol) Absolute e.reference)
+filled_holds w m has board f position text base ends member stands before e after split dynamic =
     let p : Parts = parts_of w in
     let r = e.reference in
-    let s = file_split w before e after split dynamic in
     let Q : List Field → Type 0 = λ fs. All (IsRead board m base f position) fs in
-    let read = fields_have (IsRead board m base f position) s.front (rela_of e) s.back (no_none e) (subst Q (has.fields ∙ ap fields_of s.is) (all_read board m text base f position stands)) in
+    let R : Rela → Type 0 = λ x. Splits (p.relas ++ p.jumps) x in
+    let s : Splits (p.relas ++ p.jumps) (rela_at e) = subst R (rela_is e) (file_split w before e after split dynamic) in
+    let read = fields_have (IsRead board m base f position) s.front (rela_at e) s.back (no_none r.inputs.p e.symbol (moved r.inputs) e.start) (subst Q (has.fields ∙ ap fields_of s.is) (all_read board m text base f position stands)) in
     let t = targeted w before e after split in
     let moves = dynamic_moves r.kind r.in_text (is_fixed r.target) dynamic in
-    let text_at : TEXT_START ≡ m.text.vaddr = sym (ap (λ x. x.vaddr) linked.text) in
-    let data_at : p.table ≡ m.memory.vaddr = sym (ap (λ x. x.vaddr) linked.memory) in
-    let size : m.text.memsz ≡ length (text_bytes p) = ap (λ x. x.memsz) linked.text in
+    let text_at : TEXT_START ≡ m.text.vaddr = sym (ap (λ x. x.vaddr) has.text) in
+    let data_at : p.table ≡ m.memory.vaddr = sym (ap (λ x. x.vaddr) has.memory) in
+    let size : m.text.memsz ≡ length (text_bytes p) = ap (λ x. x.memsz) has.text in
     let some = text_some p in
     let below = stands.valid.memory.range in
     let low : m.memory.vaddr < 2 ^ 32 = omega (arith, below) in
-    let i : Inputs = moved_inputs (shifts_of m text base) (definition_address f position m e.symbol) Absolute r in
     let sum = segment_sum f position m text base e.symbol e.start r.inputs.s (cast_unsigned w32 r.inputs.a) p.table r.target member stands.valid has.text_symbol has.data_symbol text_at data_at (omega (arith, size, some)) low
     t.text_symbol t.text_start t.data_symbol (λ is. t.data_start is ∙ sym (table_is w)) t.import_start (λ is. t.import_value is (not r.in_text && not (is_fixed r.target)) dynamic) moves in
-    let word : word_of (field_of (rela_of e)) (definition_address f position m (field_of (rela_of e)).symbol) % 2 ^ 32 ≡ (i.s + cast_unsigned w32 i.a) % 2 ^ 32 =
-    ap (λ n. word_of (field_of (rela_of e)) (definition_address f position m n) % 2 ^ 32) (field_symbol e)
-    ∙ ap (λ n. n % 2 ^ 32) (word_is e (definition_address f position m e.symbol))
-    ∙ double_mod (definition_address f position m e.symbol + less (moved r.inputs) e.start)
-    ∙ sum in
-    let P : ℕ → Type 0 = λ at. HoldsAt board (moved_by (shift_of base m.memory.vaddr) at) ABS32 i in
-    subst P (place_is e) (word_holds board m base f position (field_of (rela_of e)) i ends stands.range_on low read word)
+    abs_holds board m base f position r.inputs.p e.symbol (moved r.inputs) e.start (moved_inputs (shifts_of m text base) (definition_address f position m e.symbol) Absolute r) ends stands.range_on low read sum
 
-pub linked_filled : (objects : List File) (plan : LinkPlan) → All (IsObject false) objects → link_refusal objects plan ≡ None → (m : Module) → IsLinkedModule (parts_of (working_of objects plan)) m → HasLinkedFields (parts_of (working_of objects plan)) m → (board : Memory) (f : Finding) (position text base : ℕ) → board.base + length board.bytes < 2 ^ 32 → IsMember f position m text base → Stands board m text base (slot_word f.modules f.list f.bases) (address_in f) (targets_in f position m) → (before : List Entry) (e : Entry) (after : List Entry) → link_entries (working_of objects plan) ≡ before ++ e ∷ after → is_dynamic e.reference ≡ true → HoldsAt board (moved_by (shift_of base m.memory.vaddr) e.reference.inputs.p) ABS32 (moved_inputs (shifts_of m text base) (definition_address f position m e.symbol) Absolute e.reference)
-linked_filled objects plan all none m linked has board f position text base ends member stands before e after split dynamic =
-    filled_holds (working_of objects plan) m linked has board f position text base ends member stands before e after split dynamic
+pub linked_filled : (objects : List File) (plan : LinkPlan) → All (IsObject false) objects
+    → link_refusal objects plan ≡ None → (m : Module) → IsLinkedModule (parts_of (working_of objects plan)) m
+    → (board : Memory) (f : Finding) (position text base : ℕ) → board.base + length board.bytes < 2 ^ 32
+    → IsMember f position m text base
+    → Stands board m text base (slot_word f.modules f.list f.bases) (address_in f) (targets_in f position m)
+    → (before : List Entry) (e : Entry) (after : List Entry)
+    → link_entries (working_of objects plan) ≡ before ++ e ∷ after → is_dynamic e.reference ≡ true
+    → HoldsAt board (moved_by (shift_of base m.memory.vaddr) e.reference.inputs.p) ABS32 (moved_inputs (shifts_of m text base) (definition_address f position m e.symbol) Absolute e.reference)
+linked_filled objects plan all none m linked board f position text base ends member stands before e after split dynamic =
+    filled_holds (working_of objects plan) m (has_parts (parts_of (working_of objects plan)) m linked) board f position text base ends member stands before e after split dynamic

@@ -1,7 +1,6 @@
 -- What holds of each entry of a link that breaks no rule.
 use Rattle.std.proofs.Common.{◌≡◌, ◌+◌, ◌-◌, ◌^◌, ◌<◌, false, List, [], ◌∷◌, ◌++◌, Option, None, Some, length, refl, sym, ap, subst, ◌∙◌, arith}
 use Rattle.std.specs.Prelude.{All, is_some, option_map}
-use Rattle.std.proofs.lemmas.List.Elements.{All-head, All-tail}
 use Rattle.c6x_elf.specs.declared.file.File.{File}
 use Rattle.c6x_plan.specs.declared.link_plan.LinkPlan.{LinkPlan}
 use Rattle.c6x_objects.specs.Objects.{IsObject}
@@ -23,13 +22,11 @@ use Rattle.c6x_link.proofs.EachEntry.{all_entries}
 use Rattle.c6x_link.proofs.Placed.{entries_inside, worked_by}
 use Rattle.c6x_link.specs.Linked.{entry_of, entry_refusal, file_refusal, laid_refusal, link_refusal, of_entry}
 use Rattle.c6x_shift.specs.Shift.{AreWords}
-
-map_none : {A B : Type 0} (f : A → B) (o : Option A) → option_map f o ≡ None → o ≡ None
-map_none f None is = refl
-map_none f (Some x) is = absurd (cc is)
+use Rattle.c6x_relocated.proofs.Basics.{map_none, of_one}
 
 -- the rules of a link, one by one
-laid_none : (objects : List File) (plan : LinkPlan) → link_refusal objects plan ≡ None → laid_refusal (laying_of objects plan) ≡ None
+laid_none : (objects : List File) (plan : LinkPlan) → link_refusal objects plan ≡ None
+    → laid_refusal (laying_of objects plan) ≡ None
 unfolding link_refusal
 laid_none objects plan none =
     later_none (tables_refusal plan.library plan.index plan.table) (laid_refusal (laying_of objects plan))
@@ -53,18 +50,21 @@ unfolding laying_of
 objects_in objects plan = refl
 
 -- no entry breaks a rule
-pub no_rule : (objects : List File) (plan : LinkPlan) → link_refusal objects plan ≡ None → entries_error (link_entries (working_of objects plan)) ≡ None
+pub no_rule : (objects : List File) (plan : LinkPlan) → link_refusal objects plan ≡ None
+    → entries_error (link_entries (working_of objects plan)) ≡ None
 unfolding working_of
 no_rule objects plan none = entries_none (worked_out (laying_of objects plan)) (file_none (laying_of objects plan) (laid_none objects plan none))
 
-pub worked : (objects : List File) (plan : LinkPlan) → All (IsObject false) objects → link_refusal objects plan ≡ None → IsWorkedOut (working_of objects plan)
+pub worked : (objects : List File) (plan : LinkPlan) → All (IsObject false) objects → link_refusal objects plan ≡ None
+    → IsWorkedOut (working_of objects plan)
 unfolding working_of
 worked objects plan all none =
     let P : List File → Type 0 = λ fs. All (IsObject false) fs in
     worked_by (laying_of objects plan) (layout_none (laying_of objects plan) (laid_none objects plan none)) (subst P (sym (objects_in objects plan)) all)
 
 -- the addresses from which its value counts are words
-all_words : (w : Working) → w.layout.table < 2 ^ 32 → All (λ (e : Entry). AreWords e.reference.inputs) (link_entries w)
+all_words : (w : Working) → w.layout.table < 2 ^ 32
+    → All (λ (e : Entry). AreWords e.reference.inputs) (link_entries w)
 unfolding link_entry entry_on
 all_words w table = all_entries (λ (e : Entry). AreWords e.reference.inputs) w (record { each = λ object wanted e below is. record { p = omega arith; b = table } })
 
@@ -78,19 +78,16 @@ table_small w is =
     let same = ap (λ (l : Layout). l.table) is.layout ∙ table_is (laying_in w) in
     omega (arith, b.table, b.file, b.data_below, same)
 
-all_in : (w : Working) → IsWorkedOut w → All (IsIn (length (text_image w)) (length (data_image w))) (link_entries w)
+pub all_in : (w : Working) → IsWorkedOut w
+    → All (IsIn (length (text_image w)) (length (data_image w))) (link_entries w)
 all_in w is = entries_inside w (length (text_image w)) (length (data_image w)) is (text_length w is) (data_length w is)
-
--- an entry of a list
-of_one : (P : Entry → Type 0) (before : List Entry) (e : Entry) (after : List Entry) → All P (before ++ e ∷ after) → P e
-of_one P [] e after all = All-head P e after all
-of_one P (b ∷ before) e after all = of_one P before e after (All-tail P b (before ++ e ∷ after) all)
 
 pub record IsKept (w : Working) (e : Entry) : Type 0 where
   pub words : AreWords e.reference.inputs
   pub within : IsIn (length (text_image w)) (length (data_image w)) e
 
-pub kept : (w : Working) → IsWorkedOut w → (before : List Entry) (e : Entry) (after : List Entry) → link_entries w ≡ before ++ e ∷ after → IsKept w e
+pub kept : (w : Working) → IsWorkedOut w → (before : List Entry) (e : Entry) (after : List Entry)
+    → link_entries w ≡ before ++ e ∷ after → IsKept w e
 kept w is before e after split =
     let P : List Entry → Type 0 = λ es. All (λ (x : Entry). AreWords x.reference.inputs) es in
     let Q : List Entry → Type 0 = λ es. All (IsIn (length (text_image w)) (length (data_image w))) es in

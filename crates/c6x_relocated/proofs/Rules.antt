@@ -18,12 +18,13 @@ use Rattle.c6x_link_entries.specs.declared.entry.Entry.{Entry}
 use Rattle.c6x_link_entries.specs.declared.reference.Reference.{Reference}
 use Rattle.c6x_moved.specs.Moved.{is_static}
 use Rattle.c6x_shift.specs.Shift.{origin_of}
+use Rattle.c6x_relocated.proofs.Basics.{map_none}
 
-later : {A : Type 0} (a b : Option A) → (a <|> b) ≡ None → b ≡ None
+pub later : {A : Type 0} (a b : Option A) → (a <|> b) ≡ None → b ≡ None
 later None b is = is
 later (Some x) b is = absurd (cc is)
 
-first : {A : Type 0} (a b : Option A) → (a <|> b) ≡ None → a ≡ None
+pub first : {A : Type 0} (a b : Option A) → (a <|> b) ≡ None → a ≡ None
 first None b is = refl
 first (Some x) b is = absurd (cc is)
 
@@ -32,16 +33,13 @@ unfolding must
 must_true true rule is = refl
 must_true false rule is = absurd (cc is)
 
-map_none : {A B : Type 0} (f : A → B) (o : Option A) → option_map f o ≡ None → o ≡ None
-map_none f None is = refl
-map_none f (Some x) is = absurd (cc is)
-
-rule_none : (e : Entry) → error_at e ≡ None → entry_rule e.reference ≡ None
+pub rule_none : (e : Entry) → error_at e ≡ None → entry_rule e.reference ≡ None
 unfolding error_at
 rule_none e is = map_none (broken e) (entry_rule e.reference) is
 
 -- an entry of a list that breaks no rule breaks none
-pub entry_none : (before : List Entry) (e : Entry) (after : List Entry) → entries_error (before ++ e ∷ after) ≡ None → entry_rule e.reference ≡ None
+pub entry_none : (before : List Entry) (e : Entry) (after : List Entry) → entries_error (before ++ e ∷ after) ≡ None
+    → entry_rule e.reference ≡ None
 entry_none [] e after is = rule_none e (first (error_at e) (entries_error after) is)
 entry_none (b ∷ before) e after is = entry_none before e after (later (error_at b) (entries_error (before ++ e ∷ after)) is)
 
@@ -67,7 +65,8 @@ kind_keeps kind o r is =
       value = e;
     }
 
-origin_keeps : (kind : RelocKind) (o : Origin) (r : Reference) → o ≢ Nothing → origin_rule o kind r ≡ None → Keeps kind o r
+origin_keeps : (kind : RelocKind) (o : Origin) (r : Reference) → o ≢ Nothing → origin_rule o kind r ≡ None
+    → Keeps kind o r
 origin_keeps kind Nothing r some is = absurd (some refl)
 origin_keeps kind Absolute r some is = kind_keeps kind Absolute r is
 origin_keeps kind Packet r some is = kind_keeps kind Packet r is
@@ -76,7 +75,8 @@ origin_keeps kind Got r some is = kind_keeps kind Got r is
 origin_keeps kind Index r some is = kind_keeps kind Index r is
 origin_keeps kind Slot r some is = kind_keeps kind Slot r is
 
-pub entry_keeps : (kind : RelocKind) (r : Reference) → r.kind ≡ Some kind → origin_of kind ≢ Nothing → entry_rule r ≡ None → Keeps kind (origin_of kind) r
+pub entry_keeps : (kind : RelocKind) (r : Reference) → r.kind ≡ Some kind → origin_of kind ≢ Nothing
+    → entry_rule r ≡ None → Keeps kind (origin_of kind) r
 unfolding entry_rule
 entry_keeps kind r is some passes = origin_keeps kind (origin_of kind) r some (ap (λ k. rule_with k r) (sym is) ∙ passes)
 
@@ -88,7 +88,8 @@ within_by n room other is = either (nat_le n room) refl is
     either true e both = grind (arith, nat_tests)
     either false e both = absurd (cc both)
 
-pub field_inside : (kind : RelocKind) (r : Reference) → is_inside kind r ≡ true → r.offset + (row_of kind).size ≤ r.room
+pub field_inside : (kind : RelocKind) (r : Reference) → is_inside kind r ≡ true
+    → r.offset + (row_of kind).size ≤ r.room
 unfolding is_inside
 field_inside kind r is = within_by (r.offset + (row_of kind).size) r.room _ is
 
@@ -137,13 +138,15 @@ slot_is FPHEAD is = absurd (cc is)
 slot_is NOCMP is = absurd (cc is)
 
 -- an entry that the loader does not fill is static
-fixed_by : (fixed in_text word : Bool) → (fixed || (not in_text && word)) ≡ true → (word && (not in_text && not fixed)) ≡ false → fixed ≡ true
+fixed_by : (fixed in_text word : Bool) → (fixed || (not in_text && word)) ≡ true
+    → (word && (not in_text && not fixed)) ≡ false → fixed ≡ true
 fixed_by true in_text word may dynamic = refl
 fixed_by false true word may dynamic = absurd (cc may)
 fixed_by false false true may dynamic = absurd (cc dynamic)
 fixed_by false false false may dynamic = absurd (cc may)
 
-static_by : (kind : RelocKind) (o : Origin) (r : Reference) → (o ≡ Slot → not (is_slot kind) ≡ false) → Keeps kind o r → (is_word kind && (not r.in_text && not (is_fixed r.target))) ≡ false → is_static o r.target ≡ true
+static_by : (kind : RelocKind) (o : Origin) (r : Reference) → (o ≡ Slot → not (is_slot kind) ≡ false) → Keeps kind o r
+    → (is_word kind && (not r.in_text && not (is_fixed r.target))) ≡ false → is_static o r.target ≡ true
 static_by kind Nothing r slot keeps dynamic = refl
 static_by kind Absolute r slot keeps dynamic = fixed_by (is_fixed r.target) r.in_text (is_word kind) keeps.moving dynamic
 static_by kind Packet r slot keeps dynamic = refl
@@ -152,6 +155,7 @@ static_by kind Got r slot keeps dynamic = refl
 static_by kind Index r slot keeps dynamic = refl
 static_by kind Slot r slot keeps dynamic = absurd (cc (sym (slot refl) ∙ keeps.no_slot))
 
-pub entry_static : (kind : RelocKind) (r : Reference) → r.kind ≡ Some kind → Keeps kind (origin_of kind) r → is_dynamic r ≡ false → is_static (origin_of kind) r.target ≡ true
+pub entry_static : (kind : RelocKind) (r : Reference) → r.kind ≡ Some kind → Keeps kind (origin_of kind) r
+    → is_dynamic r ≡ false → is_static (origin_of kind) r.target ≡ true
 entry_static kind r is keeps dynamic =
     static_by kind (origin_of kind) r (slot_is kind) keeps (ap (λ k. is_dynamic_kind k (not r.in_text && not (is_fixed r.target))) (sym is) ∙ dynamic)

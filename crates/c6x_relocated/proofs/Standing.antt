@@ -38,7 +38,9 @@ with_zeros bytes n small i =
     zero_past bytes n i past = grind (arith, places, nat_tests)
 
 -- bytes whose bits at a field are those of a value hold it
-held_of_bits : (bytes : List ℕ) (f : Field) → AreBytes bytes → f.place + (row_of f.kind).size ≤ length bytes → ((i : ℕ) → i < width f → bit_in bytes (lowest f + i) ≡ bit_at f.value i) → HoldsValue bytes f.place f.kind f.value
+pub held_of_bits : (bytes : List ℕ) (f : Field) → AreBytes bytes → f.place + (row_of f.kind).size ≤ length bytes
+    → ((i : ℕ) → i < width f → bit_in bytes (lowest f + i) ≡ bit_at f.value i)
+    → HoldsValue bytes f.place f.kind f.value
 held_of_bits bytes f small within bits =
     let sets : SetsField bytes f.place f.kind f.value bytes = record { len = refl; field = bits; others = λ i out. refl } in
     let last : IsLast (length bytes) (f ∷ []) f = record { before = []; after = []; split = refl; within = within; alone = λ i below. refl } in
@@ -50,7 +52,9 @@ unfolding first_bit
 bit_inside f i len below within = let room = row_within f.kind in omega (arith, room, below, within)
 
 -- where fields patched bytes, and others these with more behind them, the last field of all holds its value
-pub loaded_held : (old : List ℕ) (links loaded : List Field) (more image : List ℕ) → AreBytes image → IsPatchedBy (patched old links ++ more) loaded image → (f : Field) → IsLast (length old) (links ++ loaded) f → HoldsValue image f.place f.kind f.value
+pub loaded_held : (old : List ℕ) (links loaded : List Field) (more image : List ℕ) → AreBytes image
+    → IsPatchedBy (patched old links ++ more) loaded image → (f : Field) → IsLast (length old) (links ++ loaded) f
+    → HoldsValue image f.place f.kind f.value
 loaded_held old links loaded more image small p f last =
     let len : length (patched old links) ≡ length old = patched_length old links in
     let size : length image ≡ length (patched old links ++ more) = p.size in
@@ -68,7 +72,10 @@ loaded_held old links loaded more image small p f last =
     ∙ last_is (bit_in old at) (links ++ loaded) f i last below)
 
 -- what bytes hold that stand in the memory, the memory holds
-pub on_memory : (board : Memory) (at : ℕ) (bytes behind whole : List ℕ) → whole ≡ bytes ++ behind → IsOnMemory board at (length whole) → HoldsPart board (record { at = at; bytes = whole }) → (kind : RelocKind) (place value : ℕ) → place + (row_of kind).size ≤ length bytes → HoldsValue bytes place kind value → HoldsValue board.bytes (at + place - board.base) kind value
+pub on_memory : (board : Memory) (at : ℕ) (bytes behind whole : List ℕ) → whole ≡ bytes ++ behind
+    → IsOnMemory board at (length whole) → HoldsPart board (record { at = at; bytes = whole })
+    → (kind : RelocKind) (place value : ℕ) → place + (row_of kind).size ≤ length bytes
+    → HoldsValue bytes place kind value → HoldsValue board.bytes (at + place - board.base) kind value
 on_memory board at bytes behind whole is on part kind place value within held =
     let P : List ℕ → Type 0 = λ xs. HoldsPart board (record { at = at; bytes = xs }) in
     let there = subst P is part in
@@ -87,7 +94,8 @@ parts_are : (p : Parts) → text_parts p ≡ record { at = 0; bytes = p.code } �
 unfolding text_parts
 parts_are p = refl
 
-laid_first : (bytes : List ℕ) (ps : List Laid) → laid 0 (record { at = 0; bytes = bytes } ∷ ps) ≡ bytes ++ laid (0 + length bytes) ps
+laid_first : (bytes : List ℕ) (ps : List Laid)
+    → laid 0 (record { at = 0; bytes = bytes } ∷ ps) ≡ bytes ++ laid (0 + length bytes) ps
 laid_first bytes ps = refl
 
 text_begins : (p : Parts) → Begins (text_bytes p) p.code
@@ -97,7 +105,8 @@ text_begins p = record {
   is = ap (laid 0) (parts_are p) ∙ laid_first p.code (drop 1 (text_parts p));
 }
 
-filled_text : (p : Parts) → filled (text_segment p) ≡ text_bytes p ++ replicate (length (text_bytes p) - length (text_bytes p)) 0
+filled_text : (p : Parts)
+    → filled (text_segment p) ≡ text_bytes p ++ replicate (length (text_bytes p) - length (text_bytes p)) 0
 unfolding filled
 filled_text p = refl
 
@@ -115,5 +124,6 @@ filled_content : (p : Parts) → filled (data_segment p) ≡ p.content ++ replic
 unfolding filled
 filled_content p = refl
 
-pub filled_range : (p : Parts) (s : Segment) → s ≡ data_segment p → filled s ≡ p.content ++ replicate (p.memory - length p.content) 0
+pub filled_range : (p : Parts) (s : Segment) → s ≡ data_segment p
+    → filled s ≡ p.content ++ replicate (p.memory - length p.content) 0
 filled_range p s is = ap filled is ∙ filled_content p

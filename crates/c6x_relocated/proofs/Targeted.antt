@@ -1,7 +1,6 @@
 -- What the symbols of the entries that the loader fills stand for.
 use Rattle.std.proofs.Common.{◌≡◌, ℕ, ◌+◌, ◌==◌, ◌&&◌, Bool, true, false, if◌then◌else◌, List, [], ◌∷◌, ◌++◌, Option, None, Some, refl, sym, ap, ◌∙◌, subst}
 use Rattle.std.specs.Prelude.{All, Result, Ok, Err}
-use Rattle.std.proofs.lemmas.List.Elements.{All-head, All-tail}
 use Rattle.c6x_dsbt.specs.Needs.{is_packet, kind_origin, number_origin}
 use Rattle.c6x_dsbt.specs.Wanted.{wanted_at}
 use Rattle.c6x_dsbt.specs.declared.wanted.Wanted.{Wanted}
@@ -34,6 +33,7 @@ use Rattle.c6x_link_targets.specs.Targets.{dynamic_start, number_of_bound, symbo
 use Rattle.c6x_link_targets.specs.Working.{Working}
 use Rattle.c6x_link_targets.specs.declared.target.Target.{Target}
 use Rattle.c6x_link.proofs.EachEntry.{all_entries}
+use Rattle.c6x_relocated.proofs.Basics.{of_one}
 
 -- a definition of an object is no import
 zone_no_import : (z : Zone) → zone_region z ≡ Import → (a b : ℕ) → a ≡ b
@@ -41,7 +41,8 @@ zone_no_import TextZone is a b = absurd (cc is)
 zone_no_import Near is a b = absurd (cc is)
 zone_no_import Far is a b = absurd (cc is)
 
-section_no_import : (names : ℕ) (sections : List Section) (o : Option Section) → region_of_section names sections o ≡ Import → (a b : ℕ) → a ≡ b
+section_no_import : (names : ℕ) (sections : List Section) (o : Option Section)
+    → region_of_section names sections o ≡ Import → (a b : ℕ) → a ≡ b
 section_no_import names sections None is a b = absurd (cc is)
 section_no_import names sections (Some s) is a b = either (is_allocated s) is
   where
@@ -49,7 +50,8 @@ section_no_import names sections (Some s) is a b = either (is_allocated s) is
     either true e = zone_no_import (zone_of names sections s) e a b
     either false e = absurd (cc e)
 
-class_no_import : (objects : List File) (object : ℕ) (c : SectionClass) → class_region objects object c ≡ Import → (a b : ℕ) → a ≡ b
+class_no_import : (objects : List File) (object : ℕ) (c : SectionClass) → class_region objects object c ≡ Import
+    → (a b : ℕ) → a ≡ b
 unfolding section_region
 class_no_import objects object (SectionNumber section) is a b = section_no_import _ _ _ is a b
 class_no_import objects object Undefined is a b = absurd (cc is)
@@ -57,23 +59,27 @@ class_no_import objects object AbsoluteClass is a b = absurd (cc is)
 class_no_import objects object CommonClass is a b = absurd (cc is)
 class_no_import objects object NearCommon is a b = absurd (cc is)
 
-option_no_import : (objects : List File) (object : ℕ) (o : Option Symbol) → region_of_symbol objects object o ≡ Import → (a b : ℕ) → a ≡ b
+option_no_import : (objects : List File) (object : ℕ) (o : Option Symbol) → region_of_symbol objects object o ≡ Import
+    → (a b : ℕ) → a ≡ b
 option_no_import objects object None is a b = absurd (cc is)
 option_no_import objects object (Some s) is a b = class_no_import objects object (symbol_class s) is a b
 
-symbol_no_import : (objects : List File) (object number : ℕ) → symbol_region objects object number ≡ Import → (a b : ℕ) → a ≡ b
+pub symbol_no_import : (objects : List File) (object number : ℕ) → symbol_region objects object number ≡ Import
+    → (a b : ℕ) → a ≡ b
 unfolding symbol_region
 symbol_no_import objects object number is a b = option_no_import objects object (symbol_in objects object number) is a b
 
 -- so an import has the link address 0
-binding_import : (w : Working) (number : ℕ) (b : Binding) → binding_region w.objects b ≡ Import → binding_address w number b ≡ 0
+binding_import : (w : Working) (number : ℕ) (b : Binding) → binding_region w.objects b ≡ Import
+    → binding_address w number b ≡ 0
 binding_import w number (Strong object symbol) is = symbol_no_import w.objects object symbol is (symbol_address w object symbol) 0
 binding_import w number (Weak object symbol) is = symbol_no_import w.objects object symbol is (symbol_address w object symbol) 0
 binding_import w number (Common size align near) is = absurd (cc is)
 binding_import w number (Imported weak) is = refl
 binding_import w number Table is = absurd (cc is)
 
-pub import_address : (w : Working) (wanted : Wanted) → wanted_region w.objects w.bindings wanted ≡ Import → wanted_address w wanted ≡ 0
+pub import_address : (w : Working) (wanted : Wanted) → wanted_region w.objects w.bindings wanted ≡ Import
+    → wanted_address w wanted ≡ 0
 unfolding wanted_region wanted_address bound_region bound_address
 import_address w (Bound number) is = binding_import w number (binding_in (bound_at w.bindings number)) is
 import_address w (Local object symbol) is = either (symbol == 0) is
@@ -114,11 +120,13 @@ word_kind ALIGN m is = absurd (cc is)
 word_kind FPHEAD m is = absurd (cc is)
 word_kind NOCMP m is = absurd (cc is)
 
-word_of_kind : (r : Result RelocKind RelocError) (m : Bool) → is_dynamic_kind (ok_kind r) m ≡ true → is_packet (kind_origin r) ≡ false
+word_of_kind : (r : Result RelocKind RelocError) (m : Bool) → is_dynamic_kind (ok_kind r) m ≡ true
+    → is_packet (kind_origin r) ≡ false
 word_of_kind (Err error) m is = absurd (cc is)
 word_of_kind (Ok kind) m is = word_kind kind m is
 
-no_packet : (kind : Option ℕ) (m : Bool) → is_dynamic_kind (kind_of_entry kind) m ≡ true → is_packet (number_origin kind) ≡ false
+no_packet : (kind : Option ℕ) (m : Bool) → is_dynamic_kind (kind_of_entry kind) m ≡ true
+    → is_packet (number_origin kind) ≡ false
 no_packet None m is = absurd (cc is)
 no_packet (Some number) m is = word_of_kind (kind_or number) m is
 
@@ -131,19 +139,22 @@ pub record IsTargeted (w : Working) (e : Entry) : Type 0 where
   pub import_start : e.reference.target ≡ Import → e.start ≡ 0
   pub import_value : e.reference.target ≡ Import → (m : Bool) → is_dynamic_kind e.reference.kind m ≡ true → e.reference.inputs.s ≡ 0
 
-region_of : (w : Working) (wanted : Wanted) → (target_of w wanted).region ≡ wanted_region w.objects w.bindings wanted
+pub region_of : (w : Working) (wanted : Wanted)
+    → (target_of w wanted).region ≡ wanted_region w.objects w.bindings wanted
 unfolding target_of
 region_of w wanted = refl
 
-symbol_is : (w : Working) (wanted : Wanted) → (target_of w wanted).symbol ≡ symbol_of_region (wanted_region w.objects w.bindings wanted) (number_of_bound w.bindings wanted)
+pub symbol_is : (w : Working) (wanted : Wanted)
+    → (target_of w wanted).symbol ≡ symbol_of_region (wanted_region w.objects w.bindings wanted) (number_of_bound w.bindings wanted)
 unfolding target_of
 symbol_is w wanted = refl
 
-start_is : (w : Working) (wanted : Wanted) → (target_of w wanted).start ≡ dynamic_start w (wanted_region w.objects w.bindings wanted)
+start_is : (w : Working) (wanted : Wanted)
+    → (target_of w wanted).start ≡ dynamic_start w (wanted_region w.objects w.bindings wanted)
 unfolding target_of
 start_is w wanted = refl
 
-address_is : (w : Working) (wanted : Wanted) → (target_of w wanted).address ≡ wanted_address w wanted
+pub address_is : (w : Working) (wanted : Wanted) → (target_of w wanted).address ≡ wanted_address w wanted
 unfolding target_of
 address_is w wanted = refl
 
@@ -184,11 +195,8 @@ all_targeted : (w : Working) → All (IsTargeted w) (link_entries w)
 unfolding link_entry
 all_targeted w = all_entries (IsTargeted w) w (record { each = λ object wanted x below is. entry_targeted w x (target_of w (wanted_at wanted x.object x.symbol)) (target_is w (wanted_at wanted x.object x.symbol)) })
 
-of_one : (P : Entry → Type 0) (before : List Entry) (e : Entry) (after : List Entry) → All P (before ++ e ∷ after) → P e
-of_one P [] e after all = All-head P e after all
-of_one P (b ∷ before) e after all = of_one P before e after (All-tail P b (before ++ e ∷ after) all)
-
-pub targeted : (w : Working) (before : List Entry) (e : Entry) (after : List Entry) → link_entries w ≡ before ++ e ∷ after → IsTargeted w e
+pub targeted : (w : Working) (before : List Entry) (e : Entry) (after : List Entry)
+    → link_entries w ≡ before ++ e ∷ after → IsTargeted w e
 targeted w before e after split =
     let P : List Entry → Type 0 = λ es. All (IsTargeted w) es in
     of_one (IsTargeted w) before e after (subst P split (all_targeted w))

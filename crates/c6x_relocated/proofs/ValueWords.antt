@@ -36,15 +36,18 @@ use Rattle.c6x_fill.specs.Values.{field_value as word_of, shift_of, slot_word}
 use Rattle.c6x_shift.specs.Shift.{moved_by}
 use Rattle.c6x_moved.specs.Holds.{HoldsAt}
 use Rattle.c6x_moved.specs.Moved.{moved_symbol}
-use Rattle.c6x_relocated.specs.Filled.{Finding, HasLinkedFields, IsMember, address_in, definition_address, targets_in}
-use Rattle.c6x_relocated.specs.Relocated.{IsLinkedModule, Stands, shifts_of}
+use Rattle.c6x_relocated.specs.Filled.{Finding, IsMember, address_in, definition_address, targets_in}
+use Rattle.c6x_relocated.specs.Relocated.{Stands, shifts_of}
 use Rattle.c6x_relocated.specs.ValueWords.{word_inputs}
+use Rattle.c6x_relocated.proofs.LinkedParts.{HasParts}
 use Rattle.c6x_relocated.proofs.Filled.{Splits, relas_are, segment_sum, table_is, text_some}
 use Rattle.c6x_relocated.proofs.Targeted.{target_is}
+use Rattle.c6x_relocated.proofs.Relas.{abs_holds, field_symbol, no_none, place_is}
 use Rattle.c6x_relocated.proofs.Words.{IsRead, all_read, fields_have, word_holds}
 
 -- an entry of one place among those of all
-flat_split : {X : Type 0} (g : ℕ × X → List Rela) (n : ℕ) (xs : List X) (place : ℕ) (x : X) (r : Rela) → slice_get xs place ≡ Some x → g (n + place, x) ≡ r ∷ [] → Splits (flat_map g (enumerate_from n xs)) r
+flat_split : {X : Type 0} (g : ℕ × X → List Rela) (n : ℕ) (xs : List X) (place : ℕ) (x : X) (r : Rela)
+    → slice_get xs place ≡ Some x → g (n + place, x) ≡ r ∷ [] → Splits (flat_map g (enumerate_from n xs)) r
 flat_split g n [] place x r has is = absurd (cc has)
 flat_split {X} g n (y ∷ xs) zero x r has is =
     let same : y ≡ x = cc has in
@@ -56,7 +59,8 @@ flat_split {X} g n (y ∷ xs) (suc place) x r has is =
     let rest = flat_split g (n + 1) xs place x r has (ap (λ (k : ℕ). g (k, x)) (sym z) ∙ is) in
     record { front = g (n, y) ++ rest.front; back = rest.back; is = ap (λ (l : List Rela). g (n, y) ++ l) rest.is ∙ sym (append_assoc (g (n, y)) rest.front (r ∷ rest.back)) }
 
-map_split : {X : Type 0} (g : ℕ × X → Rela) (n : ℕ) (xs : List X) (place : ℕ) (x : X) → slice_get xs place ≡ Some x → Splits (map g (enumerate_from n xs)) (g (n + place, x))
+map_split : {X : Type 0} (g : ℕ × X → Rela) (n : ℕ) (xs : List X) (place : ℕ) (x : X) → slice_get xs place ≡ Some x
+    → Splits (map g (enumerate_from n xs)) (g (n + place, x))
 map_split g n [] place x has = absurd (cc has)
 map_split {X} g n (y ∷ xs) zero x has =
     let same : y ≡ x = cc has in
@@ -94,42 +98,16 @@ in_jumps w r s = record {
 }
 
 -- the entry of a value word
-kind_is : (w : Working) (place : ℕ) (t : Target) → rela_kind (rela_on w place t) ≡ 1
-unfolding row_of
-kind_is w place t = omega arith
-
-symbol_is : (w : Working) (place : ℕ) (t : Target) → rela_symbol (rela_on w place t) ≡ t.symbol
-unfolding row_of
-symbol_is w place t = omega arith
-
-addend_is : (w : Working) (place : ℕ) (t : Target) → cast_unsigned w32 (rela_on w place t).addend ≡ less t.address t.start
-addend_is w place t = of_z-to_z w32 (less t.address t.start) (omega arith)
-
-no_none : (w : Working) (place : ℕ) (t : Target) → (rela_kind (rela_on w place t) == R_C6000_NONE) ≡ false
-no_none w place t = ap (λ n. n == R_C6000_NONE) (kind_is w place t)
-
-place_is : (r : Rela) → (field_of r).place ≡ r.offset
-unfolding field_of
-place_is r = refl
-
-field_symbol : (r : Rela) → (field_of r).symbol ≡ rela_symbol r
-unfolding field_of
-field_symbol r = refl
-
-word_is : (w : Working) (place : ℕ) (t : Target) (s : ℕ) → word_of (field_of (rela_on w place t)) s ≡ (s + less t.address t.start) % 2 ^ 32
-unfolding word_of field_of
-word_is w place t s =
-    ap (λ (b : Bool). if b then s else (s + cast_unsigned w32 (rela_on w place t).addend) % 2 ^ 32) (ap (λ n. n == R_C6000_JUMP_SLOT) (kind_is w place t))
-    ∙ ap (λ a. (s + a) % 2 ^ 32) (addend_is w place t)
-
-one_word : (w : Working) (place : ℕ) (wanted : Wanted) → is_filled_word w.objects w.bindings wanted ≡ true → word_rela w (0 + place, wanted) ≡ rela_on w place (target_of w wanted) ∷ []
+one_word : (w : Working) (place : ℕ) (wanted : Wanted) → is_filled_word w.objects w.bindings wanted ≡ true
+    → word_rela w (0 + place, wanted) ≡ rela_on w place (target_of w wanted) ∷ []
 unfolding word_rela
 one_word w place wanted is =
     let z : 0 + place ≡ place = omega arith in
     ap (λ (b : Bool). if b then rela_on w (0 + place) (target_of w wanted) ∷ [] else []) is
     ∙ ap (λ (k : ℕ). rela_on w k (target_of w wanted) ∷ []) z
 
-word_split : (w : Working) (place : ℕ) (wanted : Wanted) → slice_get w.words place ≡ Some wanted → is_filled_word w.objects w.bindings wanted ≡ true → Splits (word_relas w) (rela_on w place (target_of w wanted))
+word_split : (w : Working) (place : ℕ) (wanted : Wanted) → slice_get w.words place ≡ Some wanted
+    → is_filled_word w.objects w.bindings wanted ≡ true → Splits (word_relas w) (rela_on w place (target_of w wanted))
 unfolding word_relas
 word_split w place wanted has is =
     flat_split (word_rela w) 0 w.words place wanted (rela_on w place (target_of w wanted)) has (one_word w place wanted is)
@@ -140,52 +118,52 @@ moves_is Data is = refl
 moves_is Import is = refl
 moves_is Fixed is = absurd (cc is)
 
-target_moves : (w : Working) (wanted : Wanted) → is_filled_word w.objects w.bindings wanted ≡ true → not (is_fixed (target_of w wanted).region) ≡ true
+target_moves : (w : Working) (wanted : Wanted) → is_filled_word w.objects w.bindings wanted ≡ true
+    → not (is_fixed (target_of w wanted).region) ≡ true
 unfolding is_filled_word target_of
 target_moves w wanted is = moves_is (wanted_region w.objects w.bindings wanted) is
 
 -- a sum with nothing added
-plain_less : (s start d : ℕ) → start < 2 ^ 32 → (d + less s start) % 2 ^ 32 ≡ (d + less ((s + 0) % 2 ^ 32) start) % 2 ^ 32
+plain_less : (s start d : ℕ) → start < 2 ^ 32
+    → (d + less s start) % 2 ^ 32 ≡ (d + less ((s + 0) % 2 ^ 32) start) % 2 ^ 32
 plain_less s start d low = omega arith
 
-double_mod : (n : ℕ) → n % 2 ^ 32 % 2 ^ 32 ≡ n % 2 ^ 32
-double_mod n = omega arith
-
-start_small : (w : Working) (t : Target) (r : Region) → t.region ≡ r → (t.region ≡ Text → t.start ≡ TEXT_START) → (t.region ≡ Data → t.start ≡ w.layout.table) → (t.region ≡ Import → t.start ≡ 0) → not (is_fixed r) ≡ true → w.layout.table < 2 ^ 32 → t.start < 2 ^ 32
+start_small : (w : Working) (t : Target) (r : Region) → t.region ≡ r → (t.region ≡ Text → t.start ≡ TEXT_START)
+    → (t.region ≡ Data → t.start ≡ w.layout.table) → (t.region ≡ Import → t.start ≡ 0) → not (is_fixed r) ≡ true
+    → w.layout.table < 2 ^ 32 → t.start < 2 ^ 32
 start_small w t Text is a b c moves low = let e = a is in omega (arith, e)
 start_small w t Data is a b c moves low = let e = b is in omega (arith, e, low)
 start_small w t Import is a b c moves low = let e = c is in omega (arith, e)
 start_small w t Fixed is a b c moves low = absurd (cc moves)
 
-pub value_word_holds : (w : Working) (m : Module) → IsLinkedModule (parts_of w) m → HasLinkedFields (parts_of w) m → (board : Memory) (f : Finding) (position text base : ℕ) → board.base + length board.bytes < 2 ^ 32 → IsMember f position m text base → Stands board m text base (slot_word f.modules f.list f.bases) (address_in f) (targets_in f position m) → (place : ℕ) (wanted : Wanted) → slice_get w.words place ≡ Some wanted → is_filled_word w.objects w.bindings wanted ≡ true → HoldsAt board (moved_by (shift_of base m.memory.vaddr) (w.layout.words + 4 * place)) ABS32 (word_inputs (moved_symbol (shifts_of m text base) (definition_address f position m (target_of w wanted).symbol) Absolute (target_of w wanted).region (target_of w wanted).address))
-value_word_holds w m linked has board f position text base ends member stands place wanted listed filled =
+pub value_word_holds : (w : Working) (m : Module) → HasParts (parts_of w) m
+    → (board : Memory) (f : Finding) (position text base : ℕ) → board.base + length board.bytes < 2 ^ 32
+    → IsMember f position m text base
+    → Stands board m text base (slot_word f.modules f.list f.bases) (address_in f) (targets_in f position m)
+    → (place : ℕ) (wanted : Wanted) → slice_get w.words place ≡ Some wanted
+    → is_filled_word w.objects w.bindings wanted ≡ true
+    → HoldsAt board (moved_by (shift_of base m.memory.vaddr) (w.layout.words + 4 * place)) ABS32 (word_inputs (moved_symbol (shifts_of m text base) (definition_address f position m (target_of w wanted).symbol) Absolute (target_of w wanted).region (target_of w wanted).address))
+value_word_holds w m has board f position text base ends member stands place wanted listed filled =
     let p : Parts = parts_of w in
     let t : Target = target_of w wanted in
     let r : Rela = rela_on w place t in
     let s = in_relas w r (word_split w place wanted listed filled) in
     let Q : List Field → Type 0 = λ fs. All (IsRead board m base f position) fs in
-    let read = fields_have (IsRead board m base f position) s.front r s.back (no_none w place t) (subst Q (has.fields ∙ ap fields_of s.is) (all_read board m text base f position stands)) in
+    let read = fields_have (IsRead board m base f position) s.front r s.back (no_none (w.layout.words + 4 * place) t.symbol t.address t.start) (subst Q (has.fields ∙ ap fields_of s.is) (all_read board m text base f position stands)) in
     let is = target_is w wanted in
     let moving = target_moves w wanted filled in
-    let text_at : TEXT_START ≡ m.text.vaddr = sym (ap (λ x. x.vaddr) linked.text) in
-    let data_at : p.table ≡ m.memory.vaddr = sym (ap (λ x. x.vaddr) linked.memory) in
-    let size : m.text.memsz ≡ length (text_bytes p) = ap (λ x. x.memsz) linked.text in
+    let text_at : TEXT_START ≡ m.text.vaddr = sym (ap (λ x. x.vaddr) has.text) in
+    let data_at : p.table ≡ m.memory.vaddr = sym (ap (λ x. x.vaddr) has.memory) in
+    let size : m.text.memsz ≡ length (text_bytes p) = ap (λ x. x.memsz) has.text in
     let some = text_some p in
     let below = stands.valid.memory.range in
     let low : m.memory.vaddr < 2 ^ 32 = omega (arith, below) in
     let table : w.layout.table < 2 ^ 32 = omega (arith, sym (table_is w), data_at, low) in
     let d : ℕ = definition_address f position m t.symbol in
-    let i : Inputs = word_inputs (moved_symbol (shifts_of m text base) d Absolute t.region t.address) in
     let sum = segment_sum f position m text base t.symbol t.start t.address 0 p.table t.region member stands.valid has.text_symbol has.data_symbol text_at data_at (omega (arith, size, some)) low
     is.text_symbol is.text_start is.data_symbol (λ e. is.data_start e ∙ sym (table_is w)) is.import_start is.import_address moving in
-    let word : word_of (field_of r) (definition_address f position m (field_of r).symbol) % 2 ^ 32 ≡ (i.s + cast_unsigned w32 i.a) % 2 ^ 32 =
-    ap (λ n. word_of (field_of r) (definition_address f position m n) % 2 ^ 32) (field_symbol r ∙ symbol_is w place t)
-    ∙ ap (λ n. n % 2 ^ 32) (word_is w place t d)
-    ∙ double_mod (d + less t.address t.start)
-    ∙ plain_less t.address t.start d (start_small w t t.region refl is.text_start is.data_start is.import_start moving table)
-    ∙ sum in
-    let P : ℕ → Type 0 = λ at. HoldsAt board (moved_by (shift_of base m.memory.vaddr) at) ABS32 i in
-    subst P (place_is r) (word_holds board m base f position (field_of r) i ends stands.range_on low read word)
+    abs_holds board m base f position (w.layout.words + 4 * place) t.symbol t.address t.start (word_inputs (moved_symbol (shifts_of m text base) d Absolute t.region t.address)) ends stands.range_on low read
+    (plain_less t.address t.start d (start_small w t t.region refl is.text_start is.data_start is.import_start moving table) ∙ sum)
 
 -- the entry of a stub's word
 stub_kind : (w : Working) (x : ℕ × ℕ) → rela_kind (stub_rela w x) ≡ 27
@@ -196,7 +174,8 @@ stub_symbol : (w : Working) (x : ℕ × ℕ) → rela_symbol (stub_rela w x) ≡
 unfolding stub_rela row_of
 stub_symbol w x = omega arith
 
-stub_place : (w : Working) (place number : ℕ) → (stub_rela w (0 + place, number)).offset ≡ w.layout.words + 4 * (length w.words + place)
+stub_place : (w : Working) (place number : ℕ)
+    → (stub_rela w (0 + place, number)).offset ≡ w.layout.words + 4 * (length w.words + place)
 unfolding stub_rela
 stub_place w place number = omega arith
 
@@ -205,15 +184,20 @@ unfolding word_of field_of
 stub_word w x s =
     ap (λ (b : Bool). if b then s else (s + cast_unsigned w32 (stub_rela w x).addend) % 2 ^ 32) (ap (λ n. n == R_C6000_JUMP_SLOT) (stub_kind w x))
 
-stub_split : (w : Working) (place number : ℕ) → slice_get w.stubs place ≡ Some number → Splits (stub_relas w) (stub_rela w (0 + place, number))
+stub_split : (w : Working) (place number : ℕ) → slice_get w.stubs place ≡ Some number
+    → Splits (stub_relas w) (stub_rela w (0 + place, number))
 unfolding stub_relas
 stub_split w place number has = map_split (stub_rela w) 0 w.stubs place number has
 
 plus_none : (s : ℕ) → s % 2 ^ 32 ≡ (s + cast_unsigned w32 (pos 0)) % 2 ^ 32
 plus_none s = omega arith
 
-pub stub_word_holds : (w : Working) (m : Module) → IsLinkedModule (parts_of w) m → HasLinkedFields (parts_of w) m → (board : Memory) (f : Finding) (position text base : ℕ) → board.base + length board.bytes < 2 ^ 32 → Stands board m text base (slot_word f.modules f.list f.bases) (address_in f) (targets_in f position m) → (place number : ℕ) → slice_get w.stubs place ≡ Some number → HoldsAt board (moved_by (shift_of base m.memory.vaddr) (w.layout.words + 4 * (length w.words + place))) ABS32 (word_inputs (definition_address f position m (import_symbol w.bindings number)))
-stub_word_holds w m linked has board f position text base ends stands place number listed =
+pub stub_word_holds : (w : Working) (m : Module) → HasParts (parts_of w) m
+    → (board : Memory) (f : Finding) (position text base : ℕ) → board.base + length board.bytes < 2 ^ 32
+    → Stands board m text base (slot_word f.modules f.list f.bases) (address_in f) (targets_in f position m)
+    → (place number : ℕ) → slice_get w.stubs place ≡ Some number
+    → HoldsAt board (moved_by (shift_of base m.memory.vaddr) (w.layout.words + 4 * (length w.words + place))) ABS32 (word_inputs (definition_address f position m (import_symbol w.bindings number)))
+stub_word_holds w m has board f position text base ends stands place number listed =
     let r : Rela = stub_rela w (0 + place, number) in
     let s = in_jumps w r (stub_split w place number listed) in
     let Q : List Field → Type 0 = λ fs. All (IsRead board m base f position) fs in

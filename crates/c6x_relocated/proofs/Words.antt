@@ -30,7 +30,8 @@ use Rattle.c6x_relocated.specs.Filled.{Finding, address_in, definition_address, 
 use Rattle.c6x_relocated.specs.Relocated.{Stands}
 
 -- a field of the module that an entry for the loader makes
-pub fields_have : (P : Field → Type 0) (front : List Rela) (r : Rela) (back : List Rela) → (rela_kind r == R_C6000_NONE) ≡ false → All P (fields_of (front ++ r ∷ back)) → P (field_of r)
+pub fields_have : (P : Field → Type 0) (front : List Rela) (r : Rela) (back : List Rela)
+    → (rela_kind r == R_C6000_NONE) ≡ false → All P (fields_of (front ++ r ∷ back)) → P (field_of r)
 fields_have P [] r back some all =
     let F : Bool → List Field = λ t. if t then fields_of back else field_of r ∷ fields_of back in
     let Q : List Field → Type 0 = λ fs. All P fs in
@@ -42,7 +43,8 @@ fields_have P (x ∷ front) r back some all = either (rela_kind x == R_C6000_NON
     either false rest next = next (All-tail P (field_of x) (fields_of (front ++ r ∷ back)) rest)
 
 -- what a field stands for is what its symbol stands for
-symbol_alone : (f : Finding) (position : ℕ) (m : Module) (x : Field) → address_in f (field_value f.modules f.list position m.symbols x) ≡ definition_address f position m x.symbol
+symbol_alone : (f : Finding) (position : ℕ) (m : Module) (x : Field)
+    → address_in f (field_value f.modules f.list position m.symbols x) ≡ definition_address f position m x.symbol
 unfolding definition_address field_target field_found
 symbol_alone f position m x = refl
 
@@ -51,7 +53,9 @@ pub record IsRead (board : Memory) (m : Module) (base : ℕ) (f : Finding) (posi
   pub inside : IsInside m.memory x.place 4
   pub word : word_at false board.bytes (place_at m base x.place - board.base) ≡ word_of x (definition_address f position m x.symbol) % 2 ^ 32
 
-pub all_read : (board : Memory) (m : Module) (text base : ℕ) (f : Finding) (position : ℕ) → Stands board m text base (slot_word f.modules f.list f.bases) (address_in f) (targets_in f position m) → All (IsRead board m base f position) m.fields
+pub all_read : (board : Memory) (m : Module) (text base : ℕ) (f : Finding) (position : ℕ)
+    → Stands board m text base (slot_word f.modules f.list f.bases) (address_in f) (targets_in f position m)
+    → All (IsRead board m base f position) m.fields
 all_read board m text base f position stands =
     let g : Field → Target = field_value f.modules f.list position m.symbols in
     let back = read_back board base m stands.valid (slot_word f.modules f.list f.bases) (address_in f) (targets_in f position m) stands.range_on.above stands.range_part in
@@ -77,7 +81,11 @@ word_number bytes p =
     omega (arith, c, d)
 
 -- a word holds the value of an ABS32 whose sum it is
-pub word_holds : (board : Memory) (m : Module) (base : ℕ) (f : Finding) (position : ℕ) (x : Field) (i : Inputs) → board.base + length board.bytes < 2 ^ 32 → IsOnMemory board base m.memory.memsz → m.memory.vaddr < 2 ^ 32 → IsRead board m base f position x → word_of x (definition_address f position m x.symbol) % 2 ^ 32 ≡ (i.s + cast_unsigned w32 i.a) % 2 ^ 32 → HoldsAt board (moved_by (shift_of base m.memory.vaddr) x.place) ABS32 i
+pub word_holds : (board : Memory) (m : Module) (base : ℕ) (f : Finding) (position : ℕ) (x : Field) (i : Inputs)
+    → board.base + length board.bytes < 2 ^ 32 → IsOnMemory board base m.memory.memsz → m.memory.vaddr < 2 ^ 32
+    → IsRead board m base f position x
+    → word_of x (definition_address f position m x.symbol) % 2 ^ 32 ≡ (i.s + cast_unsigned w32 i.a) % 2 ^ 32
+    → HoldsAt board (moved_by (shift_of base m.memory.vaddr) x.place) ABS32 i
 unfolding row_of
 word_holds board m base f position x i ends on low read sum =
     let above = read.inside.above in

@@ -1,14 +1,11 @@
 -- The words that the loader fills where the module of a link stands (SPRAB89, "Dynamic Relocation").
 use Rattle.std.specs.Prelude.{◌≡◌, ℕ, ◌+◌, ◌^◌, ◌<◌, false, true, All, List, [], ◌∷◌, ◌++◌, Option, None, Some, length, map, pos, slice_get}
 use Rattle.c6x_spec.specs.Memory.{Memory}
-use Rattle.c6x_elf.specs.Abi.{STT_SECTION}
 use Rattle.c6x_elf.specs.declared.file.File.{File}
 use Rattle.c6x_plan.specs.declared.link_plan.LinkPlan.{LinkPlan}
 use Rattle.c6x_objects.specs.Objects.{IsObject}
 use Rattle.c6x_reloc.specs.declared.origin.Origin.TheVariants.{Absolute}
 use Rattle.c6x_reloc.specs.declared.reloc_kind.RelocKind.TheVariants.{ABS32}
-use Rattle.c6x_linked.specs.declared.limits.TheConstants.{TEXT_START}
-use Rattle.c6x_linked.specs.declared.parts.Parts.{Parts}
 use Rattle.c6x_link_entries.specs.Entries.{is_dynamic}
 use Rattle.c6x_link_entries.specs.declared.entry.Entry.{Entry}
 use Rattle.c6x_link_targets.specs.LinkEntries.{link_entries}
@@ -16,8 +13,6 @@ use Rattle.c6x_link_targets.specs.Working.{working_of}
 use Rattle.c6x_link.specs.Linked.{link_refusal, parts_of}
 use Rattle.c6x_module.specs.declared.field.Field.{Field}
 use Rattle.c6x_module.specs.declared.module.Module.{Module}
-use Rattle.c6x_module.specs.declared.symbol.DynSymbol.{DynSymbol}
-use Rattle.c6x_module_rules.specs.Fields.{fields_of}
 use Rattle.c6x_bind.specs.Definitions.{field_value}
 use Rattle.c6x_bind.specs.declared.target.Target.{Target}
 use Rattle.c6x_fill.specs.Values.{shift_of, slot_word, target_address, text_at}
@@ -58,17 +53,20 @@ unfoldable pub definition_address : Finding → ℕ → Module → ℕ → ℕ
 definition_address f position m number =
     address_in f (field_value f.modules f.list position m.symbols (word_on number))
 
--- The dynamic symbol of a segment.
-abbrev pub segment_symbol : ℕ → ℕ → DynSymbol
-segment_symbol value section = record { name = []; value = value; info = STT_SECTION; other = 0; section = section }
-
--- The fields of a module are those of a link's entries for the loader, and its symbols 1 and 2 those of the segments.
-pub record HasLinkedFields (p : Parts) (m : Module) : Type 0 where
-  pub fields : m.fields ≡ fields_of (p.relas ++ p.jumps)
-  pub text_symbol : slice_get m.symbols 1 ≡ Some (segment_symbol TEXT_START 1)
-  pub data_symbol : slice_get m.symbols 2 ≡ Some (segment_symbol p.table 2)
-
 -- In every process, each entry of a link whose field the loader fills holds S + A, with S where its definition stands.
 abbrev pub FilledFieldsHold : Type 0
 FilledFieldsHold =
-    (objects : List File) (plan : LinkPlan) → All (IsObject false) objects → link_refusal objects plan ≡ None → (m : Module) → IsLinkedModule (parts_of (working_of objects plan)) m → HasLinkedFields (parts_of (working_of objects plan)) m → (board : Memory) (f : Finding) (position text base : ℕ) → board.base + length board.bytes < 2 ^ 32 → IsMember f position m text base → Stands board m text base (slot_word f.modules f.list f.bases) (address_in f) (targets_in f position m) → (before : List Entry) (e : Entry) (after : List Entry) → link_entries (working_of objects plan) ≡ before ++ e ∷ after → is_dynamic e.reference ≡ true → HoldsAt board (moved_by (shift_of base m.memory.vaddr) e.reference.inputs.p) ABS32 (moved_inputs (shifts_of m text base) (definition_address f position m e.symbol) Absolute e.reference)
+    (objects : List File) (plan : LinkPlan)
+    → All (IsObject false) objects
+    → link_refusal objects plan ≡ None
+    → (m : Module)
+    → IsLinkedModule (parts_of (working_of objects plan)) m
+    → (board : Memory) (f : Finding) (position text base : ℕ)
+    → board.base + length board.bytes < 2 ^ 32
+    → IsMember f position m text base
+    → Stands board m text base (slot_word f.modules f.list f.bases) (address_in f) (targets_in f position m)
+    → (before : List Entry) (e : Entry) (after : List Entry)
+    → link_entries (working_of objects plan) ≡ before ++ e ∷ after
+    → is_dynamic e.reference ≡ true
+    → HoldsAt board (moved_by (shift_of base m.memory.vaddr) e.reference.inputs.p) ABS32
+    (moved_inputs (shifts_of m text base) (definition_address f position m e.symbol) Absolute e.reference)

@@ -6,4 +6,6 @@
 
 mod laws;
 
-pub use laws::{filled_fields_hold, linked_fields_hold, words_hold};
+pub use laws::{
+    entries_hold, filled_fields_hold, imports_are_named, linked_fields_hold, words_hold,
+};

@@ -1,10 +1,10 @@
-use Rattle.c6x_relocated.proofs.ValueWords.{stub_word_holds, value_word_holds}
+use Rattle.c6x_relocated.proofs.AllWords.{linked_stubs, linked_words}
 use Rattle.c6x_relocated.proofs.laws.words_hold.Goals as goal
 
 pub returns-clause-values : goal.returns-clause-values
-returns-clause-values c = λ w m linked has board f position text base ends member stands place wanted listed filled.
-    value_word_holds w m linked has board f position text base ends member stands place wanted listed filled
+returns-clause-values c = λ objects plan all none m linked board f position text base ends member stands place wanted listed.
+    linked_words objects plan all none m linked board f position text base ends member stands place wanted listed
 
 pub returns-clause-stubs : goal.returns-clause-stubs
-returns-clause-stubs c = λ w m linked has board f position text base ends stands place number listed.
-    stub_word_holds w m linked has board f position text base ends stands place number listed
+returns-clause-stubs c = λ objects plan all none m linked board f position text base ends stands place number listed.
+    linked_stubs objects plan m linked board f position text base ends stands place number listed
