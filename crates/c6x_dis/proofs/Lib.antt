@@ -1,5 +1,6 @@
 mod Bytes
-mod Numbers
-mod Valid
+pub mod Numbers
+pub mod Valid
 mod Reading
-mod Words
+pub mod Words
+pub mod Behind

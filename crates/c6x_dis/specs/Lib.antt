@@ -1,3 +1,4 @@
 pub mod Atoms
 pub mod Shown
 pub mod Reads
+pub mod Listed

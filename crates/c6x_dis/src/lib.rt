@@ -4,9 +4,11 @@
 #![tactic(auto)]
 
 mod conditions;
+mod listing;
 mod operands;
 mod showing;
 mod units;
 mod writing;
 
+pub use listing::list;
 pub use showing::show;

@@ -128,7 +128,8 @@ fn long_address(access: Access, base15: bool, offset: u16) -> Operand
 /// Puts the operands of a load or a store, of which a store has its register first.
 fn put_memory(line: &mut Line, access: Access, address: Operand, register: Operand)
     requires { length line.old + 45 ≤ 256 }
-    ensures { line.new ≡ line.old ++ bytes_of (operands_atoms (memory_operands access address register)) }
+    ensures is { line.new ≡ line.old ++ bytes_of (operands_atoms (memory_operands access address register)) }
+    ensures short { length line.new ≤ length line.old + 45 }
 {
     if is_store(access) {
         put_pair(line, register, address);
@@ -141,7 +142,8 @@ fn put_memory(line: &mut Line, access: Access, address: Operand, register: Opera
 #[tactic(auto, unfolding(crate::specs::Shown::access_operands))]
 fn put_access_operands(line: &mut Line, op: Op)
     requires { length line.old + 68 ≤ 256 }
-    ensures { line.new ≡ line.old ++ bytes_of (operands_atoms (access_operands op)) }
+    ensures is { line.new ≡ line.old ++ bytes_of (operands_atoms (access_operands op)) }
+    ensures short { length line.new ≤ length line.old + 68 }
 {
     match op {
         Op::Short {
@@ -190,7 +192,8 @@ fn count(number: u8) -> Operand
 fn put_branch_operands(line: &mut Line, op: Op)
     requires fits { FitsOp op }
     requires room { length line.old + 68 ≤ 256 }
-    ensures { line.new ≡ line.old ++ bytes_of (operands_atoms (branch_operands op)) }
+    ensures is { line.new ≡ line.old ++ bytes_of (operands_atoms (branch_operands op)) }
+    ensures short { length line.new ≤ length line.old + 68 }
 {
     match op {
         Op::Branch { field, .. } => put_operand(line, target(1_048_576, field)),
@@ -224,7 +227,8 @@ fn put_branch_operands(line: &mut Line, op: Op)
 pub fn put_operands(line: &mut Line, op: Op)
     requires fits { FitsOp op }
     requires room { length line.old + 68 ≤ 256 }
-    ensures { line.new ≡ line.old ++ bytes_of (operands_atoms (operands_for op)) }
+    ensures is { line.new ≡ line.old ++ bytes_of (operands_atoms (operands_for op)) }
+    ensures short { length line.new ≤ length line.old + 68 }
 {
     match op {
         Op::Two {

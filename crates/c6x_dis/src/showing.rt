@@ -1,4 +1,4 @@
-ghost use Rattle.std.specs.Prelude.{◌≡◌};
+ghost use Rattle.std.specs.Prelude.{◌≡◌, ◌≤◌, length};
 ghost use Rattle.c6x_instr.specs.Spelling.{IsValid};
 ghost use Rattle.c6x_dis.specs.Reads.{IsReadBack};
 ghost use Rattle.c6x_dis.specs.Shown.{shown};
@@ -15,6 +15,7 @@ use c6x_instr::Instr;
 pub fn show(instr: &Instr) -> Line
     requires { IsValid instr.now }
     ensures text { result ≡ shown instr.now }
+    ensures short { length result ≤ 100 }
     ensures read { IsReadBack instr.now }
 {
     let mut line = Line::new();
