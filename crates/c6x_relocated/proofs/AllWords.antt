@@ -5,7 +5,7 @@ use Rattle.c6x_spec.specs.Memory.{Memory}
 use Rattle.c6x_dsbt.specs.declared.wanted.Wanted.{Wanted}
 use Rattle.c6x_elf.specs.declared.file.File.{File}
 use Rattle.c6x_layout.specs.Dynamics.{is_filled_word}
-use Rattle.c6x_layout.specs.Regions.{moves, wanted_region}
+use Rattle.c6x_layout.specs.Regions.{moves}
 use Rattle.c6x_objects.specs.Objects.{IsObject}
 use Rattle.c6x_objects.specs.declared.region.Region.{Region}
 use Rattle.c6x_objects.specs.declared.region.Region.TheVariants.{Absolute as Fixed, Data, Import, Text}

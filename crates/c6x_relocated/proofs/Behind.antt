@@ -5,7 +5,7 @@ use Rattle.c6x_dsbt.specs.Wanted.{wanted_at}
 use Rattle.c6x_elf.specs.Entries.{text_of}
 use Rattle.c6x_layout.proofs.Sized.{ordered}
 use Rattle.c6x_layout.specs.Layouts.{Laying, file_end, group_in, near_bytes_end, near_end, places_of, words_at, words_end}
-use Rattle.c6x_layout.specs.Places.{in_far_bytes, in_far_zeros, in_near_bytes, in_near_zeros, in_text, is_far, is_near, is_text as is_text_zone, places_end, places_from}
+use Rattle.c6x_layout.specs.Places.{in_far_bytes, in_far_zeros, in_near_bytes, in_near_zeros, in_text, is_far, is_near, is_text as is_text_zone, places_from}
 use Rattle.c6x_layout.specs.Regions.{section_region, sections_at, zone_region}
 use Rattle.c6x_layout.specs.declared.layout.Layout.{Layout}
 use Rattle.c6x_layout.specs.declared.place.Place.{Place}
@@ -27,7 +27,7 @@ use Rattle.c6x_objects.specs.declared.zone.Zone.TheVariants.{Far, Near, Text}
 use Rattle.c6x_link.proofs.EachEntry.{IsOf, all_entries}
 use Rattle.c6x_link.proofs.EntriesInside.{HasBytes, OwnSection, entry_section, own_sized, part_is, region_own, room_own, sized_has}
 use Rattle.c6x_link.proofs.Found.{OwnPart}
-use Rattle.c6x_link.proofs.Inside.{AreThe, LiesIn, filter_are, filter_has, filter_lacks, found_first, found_second, has_part, has_same, lies_in}
+use Rattle.c6x_link.proofs.Inside.{AreThe, filter_are, filter_has, filter_lacks, found_first, found_second, has_part, has_same, lies_in}
 use Rattle.c6x_link.proofs.Placed.{places_are}
 use Rattle.c6x_link.proofs.SectionsInside.{text_lies}
 use Rattle.c6x_link_loads.proofs.Laid.{has_place, is_laid}

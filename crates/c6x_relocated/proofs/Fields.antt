@@ -21,7 +21,7 @@ use Rattle.c6x_fields.proofs.Steps.{last_both}
 use Rattle.c6x_fields.specs.Fields.{AreBytes, IsLast, IsPatchedBy, last_bit, patched}
 use Rattle.c6x_fields.specs.declared.field.Field.{Field}
 use Rattle.c6x_link_entries.proofs.Walks.{data_is, field_is, room_in, text_is}
-use Rattle.c6x_link_entries.specs.Entries.{IsIn, data_field, data_fields, entries_error, field_in, is_dynamic, shown, text_field, text_fields}
+use Rattle.c6x_link_entries.specs.Entries.{IsIn, data_field, data_fields, field_in, is_dynamic, shown, text_field, text_fields}
 use Rattle.c6x_link_entries.specs.Rules.{entry_rule}
 use Rattle.c6x_link_entries.specs.declared.entry.Entry.{Entry}
 use Rattle.c6x_link_images.specs.Images.{data_image, text_image}
@@ -49,7 +49,7 @@ use Rattle.c6x_relocated.proofs.Kept.{IsKept, all_in, kept, no_rule, worked}
 use Rattle.c6x_relocated.proofs.LinkedBits.{AreKept, KeepsRule, all_keep, clear_behind}
 use Rattle.c6x_relocated.proofs.LinkedParts.{HasParts, has_parts}
 use Rattle.c6x_relocated.proofs.LoadedBits.{both_none}
-use Rattle.c6x_relocated.proofs.Rules.{entry_keeps, entry_none, entry_static, field_inside, has_value}
+use Rattle.c6x_relocated.proofs.Rules.{entry_keeps, entry_static, field_inside, has_value}
 use Rattle.c6x_relocated.proofs.Standing.{filled_begins, filled_range, loaded_held, on_memory, with_zeros}
 
 -- the parts' bytes

@@ -1,11 +1,9 @@
 -- The entries that the loader fills hold their values.
-use Rattle.std.proofs.Common.{◌≡◌, ℕ, ◌+◌, ◌-◌, ◌%◌, ◌^◌, ◌<◌, ◌≤◌, ◌==◌, ◌&&◌, Bool, true, false, not, if◌then◌else◌, List, [], ◌∷◌, ◌++◌, length, drop, Option, None, Some, refl, sym, ap, ◌∙◌, subst, append_assoc, arith}
+use Rattle.std.proofs.Common.{◌≡◌, ℕ, ◌+◌, ◌%◌, ◌^◌, ◌<◌, ◌≤◌, ◌&&◌, Bool, true, false, not, if◌then◌else◌, List, [], ◌∷◌, ◌++◌, length, drop, Option, None, Some, refl, sym, ap, ◌∙◌, subst, append_assoc, arith}
 use Rattle.std.specs.Prelude.{All, slice_get}
 use Rattle.std.specs.Int.{cast_unsigned, w32}
 use Rattle.std.proofs.lemmas.Grind.{common_steps, flat_map-append}
-use Rattle.std.proofs.lemmas.Int.{of_z-to_z}
 use Rattle.c6x_spec.specs.Memory.{Memory}
-use Rattle.c6x_elf.specs.Attributes.{rela_kind, rela_symbol}
 use Rattle.c6x_elf.specs.Laid.{Part as Laid, laid}
 use Rattle.c6x_elf.specs.Rows.{word_bytes, word_row}
 use Rattle.c6x_elf.specs.Types.{Rela}
@@ -14,9 +12,7 @@ use Rattle.c6x_plan.specs.declared.link_plan.LinkPlan.{LinkPlan}
 use Rattle.c6x_objects.specs.Objects.{IsObject}
 use Rattle.c6x_objects.specs.declared.region.Region.{Region}
 use Rattle.c6x_objects.specs.declared.region.Region.TheVariants.{Absolute as Fixed, Data, Import, Text}
-use Rattle.c6x_reloc.specs.Table.{row_of}
 use Rattle.c6x_reloc.specs.Value.{less, moved}
-use Rattle.c6x_reloc.specs.declared.inputs.Inputs.{Inputs}
 use Rattle.c6x_reloc.specs.declared.origin.Origin.TheVariants.{Absolute}
 use Rattle.c6x_reloc.specs.declared.reloc_kind.RelocKind.{RelocKind}
 use Rattle.c6x_reloc.specs.declared.reloc_kind.RelocKind.TheVariants.{ABS32}
@@ -36,9 +32,8 @@ use Rattle.c6x_link.specs.Linked.{link_refusal, parts_of}
 use Rattle.c6x_module.specs.Valid.{IsValid}
 use Rattle.c6x_module.specs.declared.field.Field.{Field}
 use Rattle.c6x_module.specs.declared.module.Module.{Module}
-use Rattle.c6x_module_rules.specs.Fields.{field_of, fields_of}
-use Rattle.c6x_module_rules.specs.declared.fields.TheConstants.{R_C6000_JUMP_SLOT, R_C6000_NONE}
-use Rattle.c6x_fill.specs.Values.{field_value as word_of, shift_of, slot_word}
+use Rattle.c6x_module_rules.specs.Fields.{fields_of}
+use Rattle.c6x_fill.specs.Values.{shift_of, slot_word}
 use Rattle.c6x_shift.specs.Shift.{moved_by}
 use Rattle.c6x_moved.proofs.Words.{start_sum}
 use Rattle.c6x_moved.specs.Holds.{HoldsAt}

@@ -8,7 +8,6 @@ use Rattle.std.proofs.lemmas.Bool.Decides.{leb_tells}
 use Rattle.std.proofs.lemmas.List.Elements.{All-head, All-tail}
 use Rattle.c6x_spec.specs.Memory.{IsOnMemory, Memory}
 use Rattle.c6x_spec.specs.Numbers.{bit_in}
-use Rattle.c6x_spec.specs.Parts.{HoldsPart}
 use Rattle.c6x_dsbt.specs.declared.wanted.Wanted.{Wanted}
 use Rattle.c6x_elf.specs.Types.{Rela}
 use Rattle.c6x_layout.proofs.Bounds.{bounds}
@@ -22,9 +21,9 @@ use Rattle.c6x_reloc.specs.declared.reloc_kind.RelocKind.{RelocKind}
 use Rattle.c6x_reloc.specs.declared.reloc_kind.RelocKind.TheVariants.{ABS32}
 use Rattle.c6x_fields.proofs.Bytes.{inside_is, patched_bytes, patched_length}
 use Rattle.c6x_fields.proofs.Steps.{field_bit_outside, last_both}
-use Rattle.c6x_fields.specs.Fields.{AreBytes, field_bit, last_bit, lowest, or_bit, patched}
+use Rattle.c6x_fields.specs.Fields.{AreBytes, last_bit, lowest, or_bit, patched}
 use Rattle.c6x_fields.specs.declared.field.Field.{Field}
-use Rattle.c6x_link_entries.specs.Entries.{data_field, data_fields, dynamic_relas, field_at, field_in, field_of_kind, field_with, is_dynamic, value_or}
+use Rattle.c6x_link_entries.specs.Entries.{data_field, data_fields, dynamic_relas, field_at, field_in, field_of_kind, field_with, value_or}
 use Rattle.c6x_link_entries.specs.declared.entry.Entry.{Entry}
 use Rattle.c6x_link_images.proofs.ImageParts.{data_length}
 use Rattle.c6x_link_images.specs.Images.{data_image, value_word}

@@ -1,13 +1,12 @@
 -- The dynamic symbol of an import is found by the import's name.
-use Rattle.std.proofs.Common.{◌≡◌, ℕ, zero, suc, ◌+◌, ◌<◌, ◌==◌, ◌||◌, Bool, true, false, if◌then◌else◌, List, [], ◌∷◌, ◌++◌, length, map, take, drop, Option, None, Some, refl, sym, ap, ◌∙◌, subst, arith}
+use Rattle.std.proofs.Common.{◌≡◌, ℕ, zero, suc, ◌+◌, ◌<◌, ◌==◌, ◌||◌, Bool, true, false, if◌then◌else◌, List, [], ◌∷◌, ◌++◌, length, map, take, drop, Option, Some, refl, ap, ◌∙◌, arith}
 use Rattle.std.specs.List.{count_by}
-use Rattle.std.specs.Prelude.{option_map, slice_get}
+use Rattle.std.specs.Prelude.{slice_get}
 use Rattle.std.proofs.lemmas.Bool.Decides.{nat_tests}
 use Rattle.std.proofs.lemmas.List.{length-map}
 use Rattle.std.proofs.lemmas.List.Sums.{sum_by-cons}
 use Rattle.c6x_elf_entries.specs.Attributes.{info_binding, section_class}
 use Rattle.c6x_symbols.specs.Bindings.{BoundName, bound_at, exports_of, imports_of, is_imported, numbers_where}
-use Rattle.c6x_linked.specs.declared.shared.Shared.{Shared}
 use Rattle.c6x_link_images.specs.Exports.{export_of, import_info, import_of, shared_of}
 use Rattle.c6x_link_targets.specs.Targets.{import_symbol}
 use Rattle.c6x_link_targets.specs.Working.{Working}

@@ -1,5 +1,5 @@
 -- The bits that the loader sets in the data range of a link.
-use Rattle.std.proofs.Common.{◌≡◌, ℕ, ◌+◌, ◌-◌, ◌*◌, ◌%◌, ◌^◌, ◌<◌, ◌≤◌, ◌⊎◌, inl, inr, ◌&&◌, not, zero, suc, slice_get, Bool, true, false, if◌then◌else◌, List, [], ◌∷◌, ◌++◌, length, map, get_or, ◌≢◌, Option, None, Some, Ok, refl, sym, ap, ◌∙◌, subst, arith}
+use Rattle.std.proofs.Common.{◌≡◌, ℕ, ◌+◌, ◌-◌, ◌*◌, ◌%◌, ◌^◌, ◌<◌, ◌≤◌, ◌⊎◌, inr, ◌&&◌, not, suc, slice_get, Bool, true, false, if◌then◌else◌, List, [], ◌∷◌, ◌++◌, length, map, get_or, ◌≢◌, Option, None, Some, refl, sym, ap, ◌∙◌, subst, arith}
 use Rattle.std.specs.List.{enumerate_from, flat_map}
 use Rattle.std.specs.Prelude.{All, filter}
 use Rattle.std.proofs.lemmas.List.Elements.{All-append, All-cons, All-head, All-nil, All-tail}
@@ -14,9 +14,7 @@ use Rattle.c6x_reloc.specs.declared.reloc_kind.RelocKind.{RelocKind}
 use Rattle.c6x_reloc.specs.declared.reloc_kind.RelocKind.TheVariants.{ABS32}
 use Rattle.c6x_fields.proofs.Steps.{last_both}
 use Rattle.c6x_fields.specs.Fields.{field_bit, last_bit, or_else}
-use Rattle.c6x_fields.specs.declared.field.Field.{Field}
 use Rattle.c6x_linked.specs.declared.limits.TheConstants.{TEXT_START}
-use Rattle.c6x_linked.specs.declared.parts.Parts.{Parts}
 use Rattle.c6x_link_entries.proofs.Walks.{data_is, field_is}
 use Rattle.c6x_link_entries.specs.Entries.{IsIn, data_field, data_fields, dynamic_relas, entries_error, error_at, field_in, is_dynamic, is_dynamic_kind, rela_of, relas_at, shown}
 use Rattle.c6x_link_entries.specs.Rules.{entry_rule, is_fixed, is_word}
@@ -33,7 +31,7 @@ use Rattle.c6x_link.specs.Linked.{parts_of}
 use Rattle.c6x_link_loads.proofs.Laid.{is_laid}
 use Rattle.c6x_module.specs.declared.field.Field.{Field as Dynamic}
 use Rattle.c6x_module.specs.declared.module.Module.{Module}
-use Rattle.c6x_module_rules.specs.Fields.{field_of, fields_of}
+use Rattle.c6x_module_rules.specs.Fields.{field_of}
 use Rattle.c6x_bind.specs.declared.target.Target.{Target}
 use Rattle.c6x_moved.specs.Holds.{word_field}
 use Rattle.c6x_patched.specs.Patches.{loaded_fields}
@@ -42,7 +40,7 @@ use Rattle.c6x_relocated.proofs.Basics.{got}
 use Rattle.c6x_relocated.proofs.Behind.{IsBehind, has_words}
 use Rattle.c6x_relocated.proofs.LinkedParts.{HasParts}
 use Rattle.c6x_relocated.proofs.LoadedBits.{IsOff, fields_all, loaded_none, none_left, none_right, word_off}
-use Rattle.c6x_relocated.proofs.Rules.{HasValue, entry_keeps, field_inside, first, has_value, later, rule_none}
+use Rattle.c6x_relocated.proofs.Rules.{entry_keeps, field_inside, first, has_value, later, rule_none}
 
 -- An entry that the loader fills is an ABS32 in data.
 pub record IsWord (r : Reference) : Type 0 where

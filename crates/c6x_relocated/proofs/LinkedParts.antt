@@ -1,8 +1,7 @@
 -- What the module of a link has of its parts.
-use Rattle.std.proofs.Common.{◌≡◌, ℕ, List, [], drop, map, Some, refl, ap}
+use Rattle.std.proofs.Common.{◌≡◌, ℕ, [], drop, map, Some, ap}
 use Rattle.std.specs.Prelude.{◌++◌, slice_get}
 use Rattle.c6x_elf.specs.Abi.{STT_SECTION}
-use Rattle.c6x_elf.specs.declared.segment.Segment.{Segment}
 use Rattle.c6x_linked.specs.File.{data_segment, text_segment}
 use Rattle.c6x_linked.specs.declared.limits.TheConstants.{TEXT_START}
 use Rattle.c6x_linked.specs.declared.parts.Parts.{Parts}

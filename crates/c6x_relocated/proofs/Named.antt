@@ -1,5 +1,5 @@
 -- What the symbols of entries, value words and stubs on imports are named by.
-use Rattle.std.proofs.Common.{◌≡◌, ℕ, zero, suc, ◌+◌, ◌<◌, ◌==◌, Bool, true, false, if◌then◌else◌, nat_lt, List, [], ◌∷◌, ◌++◌, length, map, filter, get_or, Option, None, Some, refl, sym, ap, ◌∙◌, subst, arith}
+use Rattle.std.proofs.Common.{◌≡◌, ℕ, zero, suc, ◌<◌, ◌==◌, Bool, true, false, if◌then◌else◌, nat_lt, List, [], ◌∷◌, ◌++◌, length, map, filter, get_or, Option, None, Some, refl, sym, ap, ◌∙◌, subst, arith}
 use Rattle.std.specs.List.{enumerate_from, flat_map}
 use Rattle.std.specs.Prelude.{All, slice_get}
 use Rattle.std.specs.Str.{bytes_eq}
@@ -22,10 +22,9 @@ use Rattle.c6x_elf.specs.declared.section.Section.{Section}
 use Rattle.c6x_layout.specs.Regions.{binding_region, bound_region, symbol_region, wanted_region}
 use Rattle.c6x_objects.specs.Entries.{file_entries}
 use Rattle.c6x_objects.specs.declared.object_entry.ObjectEntry.{ObjectEntry}
-use Rattle.c6x_objects.specs.declared.region.Region.{Region}
 use Rattle.c6x_objects.specs.declared.region.Region.TheVariants.{Absolute as Fixed, Import}
 use Rattle.c6x_plan.specs.declared.link_plan.LinkPlan.{LinkPlan}
-use Rattle.c6x_symbols.specs.Bindings.{BoundName, binding_in, bindings_of, bound_at, is_import, is_imported, name_in}
+use Rattle.c6x_symbols.specs.Bindings.{BoundName, binding_in, bound_at, is_import, is_imported, name_in}
 use Rattle.c6x_symbols.specs.Mentions.{strings_of}
 use Rattle.c6x_symbols.specs.Names.{name_at}
 use Rattle.c6x_symbols.specs.declared.binding.Binding.{Binding}

@@ -1,5 +1,5 @@
 -- The entries for the loader of words on symbols that move.
-use Rattle.std.proofs.Common.{◌≡◌, ℕ, ◌+◌, ◌%◌, ◌^◌, ◌<◌, ◌==◌, Bool, false, if◌then◌else◌, List, ◌∷◌, ◌++◌, length, refl, ap, ◌∙◌, subst, arith}
+use Rattle.std.proofs.Common.{◌≡◌, ℕ, ◌+◌, ◌%◌, ◌^◌, ◌<◌, ◌==◌, Bool, false, if◌then◌else◌, length, refl, ap, ◌∙◌, subst, arith}
 use Rattle.std.specs.Int.{cast_signed, cast_unsigned, w32}
 use Rattle.std.proofs.lemmas.Int.{of_z-to_z}
 use Rattle.c6x_spec.specs.Memory.{IsOnMemory, Memory}

@@ -1,5 +1,5 @@
 -- What the symbols of the entries that the loader fills stand for.
-use Rattle.std.proofs.Common.{◌≡◌, ℕ, ◌+◌, ◌==◌, ◌&&◌, Bool, true, false, if◌then◌else◌, List, [], ◌∷◌, ◌++◌, Option, None, Some, refl, sym, ap, ◌∙◌, subst}
+use Rattle.std.proofs.Common.{◌≡◌, ℕ, ◌==◌, ◌&&◌, Bool, true, false, if◌then◌else◌, List, ◌∷◌, ◌++◌, Option, None, Some, refl, sym, ap, ◌∙◌, subst}
 use Rattle.std.specs.Prelude.{All, Result, Ok, Err}
 use Rattle.c6x_dsbt.specs.Needs.{is_packet, kind_origin, number_origin}
 use Rattle.c6x_dsbt.specs.Wanted.{wanted_at}

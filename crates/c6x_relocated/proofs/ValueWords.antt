@@ -1,9 +1,8 @@
 -- Value words and the words of stubs hold their values.
-use Rattle.std.proofs.Common.{◌≡◌, ℕ, zero, suc, ◌+◌, ◌-◌, ◌*◌, ◌%◌, ◌^◌, ◌<◌, ◌==◌, Bool, true, false, not, if◌then◌else◌, List, [], ◌∷◌, ◌++◌, length, map, Some, refl, sym, ap, ◌∙◌, subst, append_assoc, arith}
+use Rattle.std.proofs.Common.{◌≡◌, ℕ, zero, suc, ◌+◌, ◌*◌, ◌%◌, ◌^◌, ◌<◌, ◌==◌, Bool, true, false, not, if◌then◌else◌, List, [], ◌∷◌, ◌++◌, length, map, Some, refl, sym, ap, ◌∙◌, subst, append_assoc, arith}
 use Rattle.std.specs.Prelude.{All, pos, slice_get}
 use Rattle.std.specs.Int.{cast_unsigned, w32}
 use Rattle.std.specs.List.{enumerate_from, flat_map}
-use Rattle.std.proofs.lemmas.Int.{of_z-to_z}
 use Rattle.c6x_spec.specs.Memory.{Memory}
 use Rattle.c6x_dsbt.specs.declared.wanted.Wanted.{Wanted}
 use Rattle.c6x_elf.specs.Attributes.{rela_kind, rela_symbol}
@@ -14,7 +13,6 @@ use Rattle.c6x_objects.specs.declared.region.Region.{Region}
 use Rattle.c6x_objects.specs.declared.region.Region.TheVariants.{Absolute as Fixed, Data, Import, Text}
 use Rattle.c6x_reloc.specs.Table.{row_of}
 use Rattle.c6x_reloc.specs.Value.{less}
-use Rattle.c6x_reloc.specs.declared.inputs.Inputs.{Inputs}
 use Rattle.c6x_reloc.specs.declared.origin.Origin.TheVariants.{Absolute}
 use Rattle.c6x_reloc.specs.declared.reloc_kind.RelocKind.TheVariants.{ABS32}
 use Rattle.c6x_linked.specs.File.{text_bytes}

@@ -1,5 +1,5 @@
 -- The words that the loader fills where the module of a link stands (SPRAB89, "Dynamic Relocation").
-use Rattle.std.specs.Prelude.{◌≡◌, ℕ, ◌+◌, ◌^◌, ◌<◌, false, true, All, List, [], ◌∷◌, ◌++◌, Option, None, Some, length, map, pos, slice_get}
+use Rattle.std.specs.Prelude.{◌≡◌, ℕ, ◌+◌, ◌^◌, ◌<◌, false, true, All, List, ◌∷◌, ◌++◌, Option, None, Some, length, map, pos, slice_get}
 use Rattle.c6x_spec.specs.Memory.{Memory}
 use Rattle.c6x_elf.specs.declared.file.File.{File}
 use Rattle.c6x_plan.specs.declared.link_plan.LinkPlan.{LinkPlan}

@@ -1,5 +1,5 @@
 -- The definitions of a module's imports, which a process finds by their names (SPRAB89, "Dynamic Linking").
-use Rattle.std.specs.Prelude.{◌≡◌, ℕ, ◌+◌, ◌<◌, true, List, ◌∷◌, ◌++◌, Some, length, slice_get}
+use Rattle.std.specs.Prelude.{◌≡◌, ℕ, ◌<◌, true, List, ◌∷◌, ◌++◌, Some, length, slice_get}
 use Rattle.c6x_dsbt.specs.declared.wanted.Wanted.{Wanted}
 use Rattle.c6x_elf.specs.declared.file.File.{File}
 use Rattle.c6x_objects.specs.declared.region.Region.TheVariants.{Import}
