@@ -1,7 +1,6 @@
 -- The operands of each form are those that a shown line has.
 use Rattle.std.proofs.Common.{ℕ, ◌-◌, ◌*◌, ◌^◌, ◌<◌, ◌≤◌, Bool, true, false, if◌then◌else◌, List, [], ◌∷◌, Some, refl, arith, ltb}
 use Rattle.c6x_base.specs.declared.side.Side.{Side}
-use Rattle.c6x_base.specs.declared.side.Side.TheVariants.{A}
 use Rattle.c6x_instr.specs.Bounds.{FitsOp}
 use Rattle.c6x_instr.specs.Spelling.{first_bits}
 use Rattle.c6x_instr.specs.Values.{size_of, takes_register}

@@ -1,0 +1,6 @@
+mod Even
+mod First
+mod Sections
+mod Steps
+mod Assembled
+mod Shown
