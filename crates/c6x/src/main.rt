@@ -30,25 +30,40 @@ fn main(rt: HostRuntime) -> ExitCode {
 
 /// Does what the words behind the program's name ask for, over the working folder and the standard streams.
 fn run(rt: &HostRuntime) -> Result<u8, AllocError> {
-    let alloc = rt.alloc();
     let words = command_words(rt)?;
-    let mut board = Board::new(alloc, BOARD_BASE, BOARD_LEN)?;
-    let mut shelf = DirShelf::new(rt);
-    let mut out = OutSink::new(rt);
-    let mut err = ErrSink::new(rt);
+    let mut board = Board::new(rt.alloc(), BOARD_BASE, BOARD_LEN)?;
+    run_words(rt, words, &mut board)
+}
+
+/// Does what these words ask for, under the named policies.
+fn run_words(rt: &HostRuntime, words: Vec<Name>, board: &mut Board) -> Result<u8, AllocError> {
+    let alloc = rt.alloc();
     let round: Box<dyn Policy> = Box::new(alloc, RoundRobin::new())?;
     let last: Box<dyn Policy> = Box::new(alloc, LastFirst::new())?;
     let drawn: Box<dyn Policy> = Box::new(alloc, DrawnBySeed::new())?;
-    let mut policies = vec![in alloc; round, last, drawn]?;
-    Ok(command(
-        alloc,
+    let policies = vec![in alloc; round, last, drawn]?;
+    Ok(perform(rt, words, board, policies))
+}
+
+/// The same under these policies.
+fn perform(
+    rt: &HostRuntime,
+    words: Vec<Name>,
+    board: &mut Board,
+    mut policies: Vec<Box<dyn Policy>>,
+) -> u8 {
+    let mut shelf = DirShelf::new(rt);
+    let mut out = OutSink::new(rt);
+    let mut err = ErrSink::new(rt);
+    command(
+        rt.alloc(),
         words,
         &mut shelf,
         &mut out,
         &mut err,
-        &mut board,
+        board,
         &mut policies,
-    ))
+    )
 }
 
 /// The words behind the program's name. A list with a word that is not UTF-8 has no reading, as the empty list has none.

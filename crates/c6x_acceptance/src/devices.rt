@@ -1,15 +1,20 @@
-ghost use Rattle.std.specs.Prelude.{◌≡◌, IfOk};
 ghost use Rattle.c6x_spec.specs.Memory.{CanStart};
 
-use c6x_base::{Bytes, Name};
+use c6x_base::Name;
 use c6x_board::Board;
 use c6x_cli::command;
 use c6x_policy::{DrawnBySeed, LastFirst, Policy, RoundRobin};
-use c6x_ports::{MemoryShelf, MemorySink, Shelf, Stored};
+use c6x_ports::{MemoryShelf, MemorySink, Shelf};
 use std::alloc::{AllocError, Global};
 
 /// The first address of each board.
 pub const BASE: u32 = 0x8000_0000;
+
+/// The word that each board is filled with.
+pub const FILL: u32 = 0xAAAA_AAAA;
+
+/// The most bytes of a board.
+const MOST_BOARD: u32 = 65_536;
 
 /// How many bytes an output has room for: those that a process may put, and lines besides.
 const OUTPUT_ROOM: u32 = 131_072;
@@ -23,83 +28,171 @@ pub struct Devices {
     pub board: Board,
 }
 
-/// A shelf with `one.plan` and `app.out`, whose calls with these numbers fail; an output whose puts with these numbers
-/// fail; and a board of `len` bytes that are all 0xAA.
-pub fn filled_devices(
+/// An empty shelf, empty outputs, and a board of `len` bytes, 1 to 65,536, that are all 0xAA. The shelf's calls with
+/// these numbers fail, of which each file that is put takes one, and the output's puts with these.
+pub fn make_devices(
     alloc: Global,
-    plan: &[u8],
-    app: &[u8],
+    len: u32,
     failing_calls: &[u32],
     failing_puts: &[u32],
-    len: u32,
-) -> Result<Devices, AllocError>
-    requires { CanStart BASE len }
-{
-    let plan = stored(alloc, b"one.plan", plan)?;
-    let image = stored(alloc, b"app.out", app)?;
-    let shelf = MemoryShelf::new(
-        vec![in alloc; plan, image]?,
-        Vec::from_slice(alloc, failing_calls)?,
-    );
-    devices_over(alloc, shelf, failing_puts, len)
-}
-
-/// A shelf with `in.s` and `old.o`, whose calls with these numbers fail, and a board of 64 bytes that are all 0xAA.
-pub fn text_devices(
-    alloc: Global,
-    text: &[u8],
-    failing_calls: &[u32],
 ) -> Result<Devices, AllocError> {
-    let text = stored(alloc, b"in.s", text)?;
-    let old = stored(alloc, b"old.o", b"old")?;
-    let shelf = MemoryShelf::new(
-        vec![in alloc; text, old]?,
-        Vec::from_slice(alloc, failing_calls)?,
-    );
-    devices_over(alloc, shelf, &[], 64)
-}
-
-/// A shelf with `x.lnk`, `one.o` and `two.o`, and a board of 64 bytes that are all 0xAA.
-pub fn link_devices(
-    alloc: Global,
-    plan: &[u8],
-    one: &[u8],
-    two: &[u8],
-) -> Result<Devices, AllocError> {
-    let plan = stored(alloc, b"x.lnk", plan)?;
-    let one = stored(alloc, b"one.o", one)?;
-    let two = stored(alloc, b"two.o", two)?;
-    let shelf = MemoryShelf::new(vec![in alloc; plan, one, two]?, Vec::new(alloc));
-    devices_over(alloc, shelf, &[], 64)
-}
-
-/// The devices with this shelf.
-fn devices_over(
-    alloc: Global,
-    shelf: MemoryShelf,
-    failing_puts: &[u32],
-    len: u32,
-) -> Result<Devices, AllocError>
-    requires { CanStart BASE len }
-{
-    let mut board = Board::new(alloc, BASE, len)?;
-    board.copy_in(BASE, &vec![in alloc; 0xAA; len as usize]?);
+    let board = filled_board(alloc, len.clamp(1, MOST_BOARD))?;
+    let shelf = MemoryShelf::new(Vec::new(alloc), Vec::from_slice(alloc, failing_calls)?);
+    let out = empty_output(alloc, failing_puts)?;
+    let err = empty_output(alloc, &[])?;
     Ok(Devices {
         shelf,
-        out: MemorySink::new(alloc, OUTPUT_ROOM, Vec::from_slice(alloc, failing_puts)?)?,
-        err: MemorySink::new(alloc, OUTPUT_ROOM, Vec::new(alloc))?,
+        out,
+        err,
         board,
     })
 }
 
-// A file in memory of its own.
-fn stored(alloc: Global, name: &[u8], bytes: &[u8]) -> Result<Stored, AllocError>
-    ensures { IfOk result (λ file. file.name ≡ name.now) }
+/// A board of bytes that are all 0xAA.
+fn filled_board(alloc: Global, len: u32) -> Result<Board, AllocError>
+    requires { CanStart BASE len }
 {
-    Ok(Stored {
-        name: Name::from_bytes(alloc, name)?,
-        bytes: Bytes::from_bytes(alloc, bytes)?,
-    })
+    let mut board = Board::new(alloc, BASE, len)?;
+    board.copy_in(BASE, &vec![in alloc; 0xAA; len as usize]?);
+    Ok(board)
+}
+
+/// An output that has taken nothing.
+fn empty_output(alloc: Global, failing_puts: &[u32]) -> Result<MemorySink, AllocError> {
+    MemorySink::new(alloc, OUTPUT_ROOM, Vec::from_slice(alloc, failing_puts)?)
+}
+
+impl Devices {
+    /// Puts these bytes under this name, and tells whether they are there.
+    pub fn stores(&mut self, alloc: Global, name: &str, bytes: &[u8]) -> Result<bool, AllocError> {
+        let name = Name::from_bytes(alloc, name.as_bytes())?;
+        Ok(self.shelf.store(alloc, &name, bytes).is_ok())
+    }
+
+    /// Puts the file of this name with one of its bytes changed, and tells whether it is there.
+    pub fn changes(
+        &mut self,
+        alloc: Global,
+        name: &str,
+        at: usize,
+        byte: u8,
+    ) -> Result<bool, AllocError> {
+        let Some(file) = self.shelf.get(name.as_bytes()) else {
+            return Ok(false);
+        };
+        let mut bytes = Vec::from_slice(alloc, file)?;
+        if at >= bytes.len() {
+            return Ok(false);
+        }
+        bytes[at] = byte;
+        self.stores(alloc, name, &bytes)
+    }
+
+    /// Puts this text as `in.s`, and tells whether the words assemble it.
+    pub fn assembles(
+        &mut self,
+        alloc: Global,
+        words: &str,
+        text: &str,
+    ) -> Result<bool, AllocError> {
+        Ok(self.stores(alloc, "in.s", text.as_bytes())? && self.gives(alloc, words, 0, "", "")?)
+    }
+
+    /// Whether a file of this name has these bytes.
+    pub fn has_file(&self, name: &str, bytes: &[u8]) -> bool {
+        match self.shelf.get(name.as_bytes()) {
+            Some(file) => file == bytes,
+            None => false,
+        }
+    }
+
+    /// Whether there is no file of this name.
+    pub fn lacks_file(&self, name: &str) -> bool {
+        self.shelf.get(name.as_bytes()).is_none()
+    }
+
+    /// Whether the board has this word at this address.
+    pub fn has_word(&self, at: u32, word: u32) -> bool {
+        let base = self.board.base();
+        let len = self.board.len();
+        at >= base && len >= 4 && at - base <= len - 4 && self.board.read32(at) == word
+    }
+
+    /// Whether the board has each of these words at its address.
+    pub fn has_words(&self, words: &[(u32, u32)]) -> bool {
+        for (at, word) in words {
+            if !self.has_word(*at, *word) {
+                return false;
+            }
+        }
+        true
+    }
+
+    /// Empties the outputs.
+    pub fn empties_outputs(&mut self, alloc: Global) -> Result<(), AllocError> {
+        self.out = empty_output(alloc, &[])?;
+        self.err = empty_output(alloc, &[])?;
+        Ok(())
+    }
+
+    /// Whether the command with these words, split at spaces, gives this status, and both outputs then have these
+    /// texts. The three named policies are handed in.
+    pub fn gives(
+        &mut self,
+        alloc: Global,
+        words: &str,
+        status: u8,
+        out: &str,
+        err: &str,
+    ) -> Result<bool, AllocError> {
+        self.gives_to(alloc, words_of(alloc, words)?, status, out, err)
+    }
+
+    /// The same of these words.
+    pub fn gives_to(
+        &mut self,
+        alloc: Global,
+        words: Vec<Name>,
+        status: u8,
+        out: &str,
+        err: &str,
+    ) -> Result<bool, AllocError> {
+        let mut policies = Vec::new(alloc);
+        push_named(alloc, &mut policies)?;
+        Ok(self.gives_under(alloc, words, &mut policies, status, out, err))
+    }
+
+    /// The same where these policies are handed in.
+    pub fn gives_under(
+        &mut self,
+        alloc: Global,
+        words: Vec<Name>,
+        policies: &mut Vec<Box<dyn Policy>>,
+        status: u8,
+        out: &str,
+        err: &str,
+    ) -> bool {
+        let given = self.commanded(alloc, words, policies);
+        given == status && self.out.bytes() == out.as_bytes() && self.err.bytes() == err.as_bytes()
+    }
+
+    // The status alone: a caller needs nothing of what `command` promises.
+    fn commanded(
+        &mut self,
+        alloc: Global,
+        words: Vec<Name>,
+        policies: &mut Vec<Box<dyn Policy>>,
+    ) -> u8 {
+        command(
+            alloc,
+            words,
+            &mut self.shelf,
+            &mut self.out,
+            &mut self.err,
+            &mut self.board,
+            policies,
+        )
+    }
 }
 
 /// Words that are split at spaces.
@@ -111,88 +204,10 @@ pub fn words_of(alloc: Global, text: &str) -> Result<Vec<Name>, AllocError> {
     Ok(words)
 }
 
-/// Whether the command with these words, split at spaces, gives this status, and both outputs then have these texts. The
-/// three named policies are handed in.
-pub fn gives(
-    alloc: Global,
-    devices: &mut Devices,
-    text: &str,
-    status: u8,
-    out: &str,
-    err: &str,
-) -> Result<bool, AllocError> {
-    gives_to_words(alloc, devices, words_of(alloc, text)?, status, out, err)
-}
-
-/// The same of these words.
-pub fn gives_to_words(
-    alloc: Global,
-    devices: &mut Devices,
-    words: Vec<Name>,
-    status: u8,
-    out: &str,
-    err: &str,
-) -> Result<bool, AllocError> {
-    let round: Box<dyn Policy> = Box::new(alloc, RoundRobin::new())?;
-    let last: Box<dyn Policy> = Box::new(alloc, LastFirst::new())?;
-    let drawn: Box<dyn Policy> = Box::new(alloc, DrawnBySeed::new())?;
-    let mut policies = vec![in alloc; round, last, drawn]?;
-    Ok(gives_under(alloc, devices, words, &mut policies, status, out, err))
-}
-
-/// The same where these policies are handed in.
-pub fn gives_under(
-    alloc: Global,
-    devices: &mut Devices,
-    words: Vec<Name>,
-    policies: &mut Vec<Box<dyn Policy>>,
-    status: u8,
-    out: &str,
-    err: &str,
-) -> bool {
-    let given = command(
-        alloc,
-        words,
-        &mut devices.shelf,
-        &mut devices.out,
-        &mut devices.err,
-        &mut devices.board,
-        policies,
-    );
-    given == status
-        && devices.out.bytes() == out.as_bytes()
-        && devices.err.bytes() == err.as_bytes()
-}
-
-/// Whether the board has this word at this address.
-pub fn has_word(board: &Board, at: u32, word: u32) -> bool {
-    let len = board.len();
-    at >= board.base() && len >= 4 && at - board.base() <= len - 4 && board.read32(at) == word
-}
-
-/// Whether the shelf has a file of this name with these bytes.
-pub fn has_file(shelf: &MemoryShelf, name: &[u8], bytes: &[u8]) -> bool {
-    match shelf.get(name) {
-        Some(file) => file == bytes,
-        None => false,
-    }
-}
-
-/// An empty shelf, and a board of `len` bytes that are all 0xAA.
-pub fn plain_devices(alloc: Global, len: u32) -> Result<Devices, AllocError>
-    requires { CanStart BASE len }
-{
-    let shelf = MemoryShelf::new(Vec::new(alloc), Vec::new(alloc));
-    devices_over(alloc, shelf, &[], len)
-}
-
-/// Puts these bytes under this name, and tells whether they are there.
-pub fn stores(
-    alloc: Global,
-    devices: &mut Devices,
-    name: &str,
-    bytes: &[u8],
-) -> Result<bool, AllocError> {
-    let name = Name::from_bytes(alloc, name.as_bytes())?;
-    Ok(devices.shelf.store(alloc, &name, bytes).is_ok())
+/// Appends a policy of each named kind.
+fn push_named(alloc: Global, policies: &mut Vec<Box<dyn Policy>>) -> Result<(), AllocError> {
+    policies.push(Box::new(alloc, RoundRobin::new())?)?;
+    policies.push(Box::new(alloc, LastFirst::new())?)?;
+    policies.push(Box::new(alloc, DrawnBySeed::new())?)?;
+    Ok(())
 }

@@ -6,25 +6,33 @@ use std::alloc::{AllocError, Global};
 pub const ONE_PLAN: &str =
     "c6x-plan 1\nquantum 10\nmodule app app.out\nprocess p app limit 100 stack 64 arg 0\n";
 
-/// The bytes of an executable whose code is `MVK .S1 5,A4` and `BNOP .S2 B3,5`: 284 of them, 116 in its text.
-pub fn m1(alloc: Global) -> Result<Vec<u8>, AllocError> {
-    image_of(alloc, &[0x020002a8, 0x008ca362])
-}
+/// The words of an executable whose code is `MVK .S1 5,A4` and `BNOP .S2 B3,5`: 284 bytes, of which 116 are its text.
+pub const KNOWN: &[u32] = &[
+    0x464c457f, 0x00010101, 0, 0, 0x008c0002, 1, 0x00010000, 0x00000034, 0, 0, 0x00200034, 3, 0, 1,
+    0x000000a0, 0x00010000, 0x00010000, 0x00000074, 0x00000074, 5, 0x00000020, 1, 0x00000118,
+    0x00012000, 0x00012000, 4, 4, 6, 8, 2, 0x000000cc, 0x0001002c, 0x0001002c, 0x00000048,
+    0x00000048, 4, 4, 0, 0, 0, 0x020002a8, 0x008ca362, 1, 1, 0, 0, 0, 0, 0, 0, 0, 4, 0x00010008, 5,
+    0x00010028, 6, 0x00010018, 0x0000000a, 1, 0x0000000b, 0x00000010, 0x70000000, 0x00012000,
+    0x70000001, 1, 0x70000003, 0, 0, 0, 0, 0,
+];
 
-/// The first 51 bytes of that executable, which is one less than a file header.
-pub fn front_of_m1(alloc: Global) -> Result<Vec<u8>, AllocError> {
-    let mut bytes = m1(alloc)?;
-    bytes.truncate(51);
+/// The bytes of words, lowest byte first.
+pub fn bytes_of(alloc: Global, words: &[u32]) -> Result<Vec<u8>, AllocError> {
+    let mut bytes = Vec::new(alloc);
+    push_words(&mut bytes, words)?;
     Ok(bytes)
 }
 
-/// The bytes of that executable, but for one of its file header.
-pub fn damaged_m1(alloc: Global) -> Result<Vec<u8>, AllocError> {
-    let mut bytes = m1(alloc)?;
-    if bytes.len() > 5 {
-        bytes[5] = 2;
+/// Whether bytes begin with these words, lowest byte first.
+pub fn begins_with_words(bytes: &[u8], words: &[u32]) -> bool {
+    let mut rest = bytes;
+    for word in words {
+        match rest.strip_prefix(&word.to_le_bytes()) {
+            Some(more) => rest = more,
+            None => return false,
+        }
     }
-    Ok(bytes)
+    true
 }
 
 /// The words of a file header of an executable whose three program headers follow it.
@@ -36,24 +44,46 @@ const FILE_HEADER: [u32; 13] = [
 pub fn image_of(alloc: Global, code: &[u32]) -> Result<Vec<u8>, AllocError>
     requires { length code.now ≤ 900 }
 {
-    let size = 4 * code.len() as u32;
-    let data_at = (160 + size + 108 + 7) / 8 * 8;
     let mut bytes = Vec::new(alloc);
-    push_words(&mut bytes, &FILE_HEADER)?;
-    push_words(&mut bytes, &program_headers(size, data_at))?;
-    push_words(&mut bytes, &[0, 0, 0])?;
-    push_words(&mut bytes, code)?;
-    push_words(&mut bytes, &[1, 1, 0, 0, 0, 0, 0, 0, 0])?;
-    push_words(&mut bytes, &dynamic_entries(0x0001_0000 + size))?;
-    if data_at > 268 + size {
-        push_words(&mut bytes, &[0])?;
-    }
-    push_words(&mut bytes, &[0])?;
+    push_headers(&mut bytes, code)?;
+    push_text(&mut bytes, code)?;
     Ok(bytes)
 }
 
-/// The program headers of a text, a data range and the dynamic entries, by the size of the code in bytes and the offset of
-/// the data.
+/// The offset of the data of an executable whose code has this many bytes.
+fn data_offset(size: u32) -> u32
+    requires { size ≤ 3600 }
+    ensures { result ≤ 4000 }
+{
+    (160 + size + 108 + 7) / 8 * 8
+}
+
+/// Appends the file header and the program headers, to a multiple of 32.
+fn push_headers(bytes: &mut Vec<u8>, code: &[u32]) -> Result<(), AllocError>
+    requires { length code.now ≤ 900 }
+{
+    let size = 4 * code.len() as u32;
+    push_words(bytes, &FILE_HEADER)?;
+    push_words(bytes, &program_headers(size, data_offset(size)))?;
+    push_words(bytes, &[0, 0, 0])
+}
+
+/// Appends the text and the data.
+fn push_text(bytes: &mut Vec<u8>, code: &[u32]) -> Result<(), AllocError>
+    requires { length code.now ≤ 900 }
+{
+    let size = 4 * code.len() as u32;
+    push_words(bytes, code)?;
+    push_words(bytes, &[1, 1, 0, 0, 0, 0, 0, 0, 0])?;
+    push_words(bytes, &dynamic_entries(0x0001_0000 + size))?;
+    if data_offset(size) > 268 + size {
+        push_words(bytes, &[0])?;
+    }
+    push_words(bytes, &[0])
+}
+
+/// The program headers of a text, a data range and the dynamic entries, by the size of the code in bytes and the
+/// offset of the data.
 fn program_headers(size: u32, data_at: u32) -> [u32; 24]
     requires { size ≤ 3600 }
 {

@@ -1,7 +1,8 @@
 //! Worked rows: commands over devices in memory, and what they leave.
 //!
 //! The contract of `command` says what every call gives. These tests show that calls with ample memory give it, with
-//! texts and statuses that were worked out by hand.
+//! texts, words and statuses that were worked out by hand or by a model. A row says what one command over its files
+//! gives; a table has the rows of one kind, and its test names the first that does not hold.
 #![tactic(auto)]
 
 #[cfg(test)]
@@ -10,6 +11,10 @@ mod assembling;
 mod devices;
 #[cfg(test)]
 mod images;
+#[cfg(test)]
+mod lengths;
+#[cfg(test)]
+mod linked;
 #[cfg(test)]
 mod linking;
 #[cfg(test)]
@@ -20,5 +25,7 @@ mod modules;
 mod plans;
 #[cfg(test)]
 mod policies;
+#[cfg(test)]
+mod rows;
 #[cfg(test)]
 mod run;
