@@ -43,9 +43,8 @@ fn stores_all(alloc: Global, d: &mut Devices) -> Result<bool, AllocError> {
     )
 }
 
-/// A file that is longer than a file may be is told before any rule of its own, whatever it is; one that just fits is
-/// read.
-const LONG: &[Long] = &[
+/// A text that is longer than a file may be is told before any rule of its own; one that just fits is read.
+const TEXTS: &[Long] = &[
     Long {
         name: "in.s",
         len: MOST_BYTES,
@@ -58,6 +57,16 @@ const LONG: &[Long] = &[
         words: "as in.s new.o",
         line: "c6x: refused E11 Large in.s 0\n",
     },
+];
+
+#[test]
+fn long_texts(rt: HostRuntime) -> Result<(), AllocError> {
+    assert_eq!(&rt; first_wrong(rt.alloc(), TEXTS)?, None);
+    Ok(())
+}
+
+/// So are a link plan and an object.
+const LINKED: &[Long] = &[
     Long {
         name: "x.lnk",
         len: MOST_BYTES,
@@ -82,6 +91,16 @@ const LONG: &[Long] = &[
         words: "ld x.lnk new.o",
         line: "c6x: refused E11 Large one.o 0\n",
     },
+];
+
+#[test]
+fn long_files_of_a_link(rt: HostRuntime) -> Result<(), AllocError> {
+    assert_eq!(&rt; first_wrong(rt.alloc(), LINKED)?, None);
+    Ok(())
+}
+
+/// A plan and an executable,
+const MAPPED: &[Long] = &[
     Long {
         name: "one.plan",
         len: MOST_BYTES,
@@ -106,6 +125,16 @@ const LONG: &[Long] = &[
         words: "map one.plan",
         line: "c6x: refused E11 Large app.out 0\n",
     },
+];
+
+#[test]
+fn long_files_of_a_map(rt: HostRuntime) -> Result<(), AllocError> {
+    assert_eq!(&rt; first_wrong(rt.alloc(), MAPPED)?, None);
+    Ok(())
+}
+
+/// and those of a run.
+const RUN: &[Long] = &[
     Long {
         name: "one.plan",
         len: MOST_BYTES + 1,
@@ -121,7 +150,7 @@ const LONG: &[Long] = &[
 ];
 
 #[test]
-fn files_at_the_limit(rt: HostRuntime) -> Result<(), AllocError> {
-    assert_eq!(&rt; first_wrong(rt.alloc(), LONG)?, None);
+fn long_files_of_a_run(rt: HostRuntime) -> Result<(), AllocError> {
+    assert_eq!(&rt; first_wrong(rt.alloc(), RUN)?, None);
     Ok(())
 }
