@@ -18,6 +18,8 @@ mod linked;
 #[cfg(test)]
 mod linking;
 #[cfg(test)]
+mod listing;
+#[cfg(test)]
 mod map;
 #[cfg(test)]
 mod modules;
@@ -29,3 +31,5 @@ mod policies;
 mod rows;
 #[cfg(test)]
 mod run;
+#[cfg(test)]
+mod turns;

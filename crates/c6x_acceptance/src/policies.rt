@@ -12,11 +12,20 @@ const ONE_RUN: &str = "text app 0x80000000 116\n\
     process p exit 5 cycles 8 output 0\n\
     \n";
 
+/// The same with the turns that the number 1 draws.
+const ONE_TOLD: &str = "text app 0x80000000 116\n\
+    data p app 0x80000078 4\n\
+    stack p 0x80000080 64\n\
+    turn p 6\n\
+    turn p 2\n\
+    process p exit 5 cycles 8 output 0\n\
+    \n";
+
 /// The line where the words have no reading, or no policy is of the kind.
 const USAGE: &str = "c6x: usage\n";
 
 /// Puts the plan of one process and its executable.
-fn stores_one(alloc: Global, d: &mut Devices) -> Result<bool, AllocError> {
+pub fn stores_one(alloc: Global, d: &mut Devices) -> Result<bool, AllocError> {
     let image = bytes_of(alloc, KNOWN)?;
     Ok(d.stores(alloc, "one.plan", ONE_PLAN.as_bytes())? && d.stores(alloc, "app.out", &image)?)
 }
@@ -216,7 +225,13 @@ const NAMED: &[Named] = &[
         err: USAGE,
     },
     Named {
-        words: "run one.plan --turns",
+        words: "run one.plan --turns --turns",
+        status: 2,
+        out: "",
+        err: USAGE,
+    },
+    Named {
+        words: "run --turns",
         status: 2,
         out: "",
         err: USAGE,
@@ -377,6 +392,7 @@ fn processes_of_a_library_under_any_policy(rt: HostRuntime) -> Result<(), AllocE
 /// two answers then where these are ready: one process, or those of the numbers 0, 3, 4 and 9.
 struct Drawn {
     words: &'static str,
+    out: &'static str,
     alone: bool,
     first: Pick,
     second: Pick,
@@ -394,7 +410,7 @@ impl Row for Drawn {
         push_last_and_two_drawn(alloc, &mut policies)?;
         Ok(
             stored
-                && d.gives_under(alloc, words, &mut policies, 0, ONE_RUN, "")
+                && d.gives_under(alloc, words, &mut policies, 0, self.out, "")
                 && answers(policies.pop(), self.alone) == Some(self.second)
                 && answers(policies.pop(), self.alone) == Some(self.first),
         )
@@ -425,6 +441,7 @@ fn answers(policy: Option<Box<dyn Policy>>, alone: bool) -> Option<Pick> {
 const DRAWN: &[Drawn] = &[
     Drawn {
         words: "run one.plan --policy drawn --seed 9",
+        out: ONE_RUN,
         alone: false,
         first: Pick {
             process: 9,
@@ -437,6 +454,20 @@ const DRAWN: &[Drawn] = &[
     },
     Drawn {
         words: "run one.plan --policy drawn",
+        out: ONE_RUN,
+        alone: true,
+        first: Pick {
+            process: 0,
+            steps: 8,
+        },
+        second: Pick {
+            process: 0,
+            steps: 1,
+        },
+    },
+    Drawn {
+        words: "run --turns --policy drawn one.plan",
+        out: ONE_TOLD,
         alone: true,
         first: Pick {
             process: 0,

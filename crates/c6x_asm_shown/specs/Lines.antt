@@ -45,9 +45,7 @@ shown_head at i = head_at at i.condition (mnemonic_for i.op) (unit_for i.op)
 pub record IsLineRead (i : Instr) : Type 0 where
   pub apart : AreApart (shown_atoms i)
   pub read : (at : ℕ) → line_of (lexemes_at at (shown_atoms i)) ≡ Some (line_with (shown_head at i) (operands_for i.op))
-  pub means :
-      (front : List ℕ) →
-      instruction_of (front ++ shown i) (shown_head (length front) i) (operands_for i.op) ≡ Ok (plain_made i.op)
+  pub means : (front : List ℕ) → instruction_of (front ++ shown i) (shown_head (length front) i) (operands_for i.op) ≡ Ok (plain_made i.op)
 
 abbrev pub LinesAreRead : Type 0
 LinesAreRead = (i : Instr) → IsValid i → IsLineRead i

@@ -49,12 +49,9 @@ AreApart (a ∷ atoms) = (is_token a ≡ true) × (is_parted a atoms ≡ true) �
 -- the tokens of atoms, of which the first starts at this offset of this line
 abbrev pub tokens_at : ℕ → ℕ → List Atom → List Token
 tokens_at line at [] = []
-tokens_at line at (word bs ∷ atoms) =
-    record { kind = WordToken; at = at; len = length bs; line = line } ∷ tokens_at line (at + length bs) atoms
-tokens_at line at (number bs ∷ atoms) =
-    record { kind = NumberToken; at = at; len = length bs; line = line } ∷ tokens_at line (at + length bs) atoms
-tokens_at line at (punctuator b ∷ atoms) =
-    record { kind = PunctuatorToken; at = at; len = 1; line = line } ∷ tokens_at line (at + 1) atoms
+tokens_at line at (word bs ∷ atoms) = record { kind = WordToken; at = at; len = length bs; line = line } ∷ tokens_at line (at + length bs) atoms
+tokens_at line at (number bs ∷ atoms) = record { kind = NumberToken; at = at; len = length bs; line = line } ∷ tokens_at line (at + length bs) atoms
+tokens_at line at (punctuator b ∷ atoms) = record { kind = PunctuatorToken; at = at; len = 1; line = line } ∷ tokens_at line (at + 1) atoms
 tokens_at line at (space ∷ atoms) = tokens_at line (at + 1) atoms
 
 abbrev pub word_at : ℕ → List ℕ → Word

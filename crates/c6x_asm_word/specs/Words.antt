@@ -30,6 +30,4 @@ pub record IsOneWord (file : File) (word : ℕ) : Type 0 where
 
 -- The text is assembled, to the word of the instruction with bit 0 clear: the shown line says nothing of the p bit.
 abbrev pub ShownIsAssembled : Type 0
-ShownIsAssembled =
-    (i : Instr) (word : ℕ) → Spells i word →
-    (file : File) × (assembled (text_of i) ≡ Ok file) × IsOneWord file (word - word % 2)
+ShownIsAssembled = (i : Instr) (word : ℕ) → Spells i word → (file : File) × (assembled (text_of i) ≡ Ok file) × IsOneWord file (word - word % 2)

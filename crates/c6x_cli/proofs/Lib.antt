@@ -1,3 +1,4 @@
 pub mod Misread
 pub mod OutcomeKinds
 pub mod Served
+pub mod Relocated

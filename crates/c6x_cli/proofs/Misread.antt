@@ -9,12 +9,12 @@ use Rattle.c6x_policy.specs.Chooser.{Chooser}
 use Rattle.c6x_policy.specs.declared.kind.Kind.{Kind}
 use Rattle.c6x_cli_steps.specs.Policies.{KeepsPolicies}
 use Rattle.c6x_cli_steps.specs.declared.prepare_error.PrepareError.TheVariants.{Because}
-use Rattle.c6x_cli_steps.specs.Exits.{Exits, IsStopped, Reports}
-use Rattle.c6x_cli_steps.specs.Lines.{usage_line}
-use Rattle.c6x_cli_steps.specs.Statuses.{Keeps, Performs, Shows}
+use Rattle.c6x_cli_exits.specs.Exits.{Exits, IsStopped}
+use Rattle.c6x_cli_steps.specs.Lines.{Reports, usage_line}
+use Rattle.c6x_cli_exits.specs.Statuses.{Keeps, Performs, Shows}
 use Rattle.c6x_cli_steps.specs.Stores.{KeepsWriteFaults}
 use Rattle.c6x_cli_steps.specs.World.{World, world}
-use Rattle.c6x_cli_steps.proofs.Performs.{shows_stopped, performed_reading, policies_stopped, keeps_stopped, leaves_nothing}
+use Rattle.c6x_cli_exits.proofs.Performs.{shows_stopped, performed_reading, policies_stopped, keeps_stopped, leaves_nothing}
 use Rattle.c6x_cli_words.specs.declared.request.Request.{Request}
 use Rattle.c6x_cli.specs.Meaning.{steps_of}
 use Rattle.c6x_cli.specs.Serving.{EndsUsage}

@@ -13,13 +13,13 @@ use Rattle.c6x_spec.specs.Memory.{Memory}
 use Rattle.c6x_ports.specs.Shelf.{Shelved}
 use Rattle.c6x_ports.specs.Sink.{Taken}
 use Rattle.c6x_cli_steps.specs.declared.commit_error.CommitError.{CommitError}
-use Rattle.c6x_cli_steps.specs.Exits.{Carries, asking_outcome}
+use Rattle.c6x_cli_exits.specs.Exits.{Carries, asking_outcome}
 use Rattle.c6x_cli_steps.specs.Policies.{first_of, same_kind, Serves}
-use Rattle.c6x_cli_steps.specs.Stages.{Stage, Delivers}
 use Rattle.c6x_cli_steps.specs.World.{world}
-use Rattle.c6x_cli_steps.proofs.Performs.{carries_asking}
+use Rattle.c6x_cli_exits.proofs.Performs.{carries_asking}
 use Rattle.c6x_cli_steps.proofs.Policies.{map_set}
 use Rattle.c6x_cli_loading.specs.declared.loading.Loading.{Loading}
+use Rattle.c6x_cli_turns.specs.Tellings.{Telling, Tells}
 use Rattle.c6x_cli_run.specs.Stages.{asked_of}
 use Rattle.c6x_cli_words.specs.Requests.{IsReading}
 use Rattle.c6x_cli_words.specs.declared.request.Request.{Request}
@@ -118,14 +118,15 @@ first_is kind policies place was found there =
     kinds_same was.kind kind (subst (λ policy. same_kind policy.kind kind ≡ true) (got_or policies place was was there) passes)
 
 -- what is asked of the first policy of a kind carries out a command that asks it
-pub asking_carries : {A B : Type 0} (view : B → Chooser) (items now : List B) (place : ℕ) (was new : B) (kind : Kind) (seed : ℕ) (loading : Loading) (stages : List Stage) (out new_out : Taken) (board new_board : Memory) (result : Result A CommitError) (shelf : Shelved) (err : Taken) → first_of kind (map view items) ≡ Some place → place < length items → was ≡ get_or items place was → now ≡ set items place new → Delivers stages out new_out board new_board result → Serves (asked_of (view was).kind seed loading) (view was) (view new) result → Carries (asking_outcome stages (asked_of kind seed loading)) result (world shelf out err board (map view items)) (world shelf new_out err new_board (map view now))
-asking_carries view items now place was new kind seed loading stages out new_out board new_board result shelf err found within at is delivers serves =
+pub asking_carries : {A B : Type 0} (view : B → Chooser) (items now : List B) (place : ℕ) (was new : B) (kind : Kind) (seed : ℕ) (loading : Loading) (telling : Kind → Telling) (out new_out : Taken) (board new_board : Memory) (result : Result A CommitError) (shelf : Shelved) (err : Taken) → first_of kind (map view items) ≡ Some place → place < length items → was ≡ get_or items place was → now ≡ set items place new → Tells (telling (view was).kind) out new_out board new_board result → Serves (asked_of (view was).kind seed loading) (view was) (view new) result → Carries (asking_outcome (telling kind) (asked_of kind seed loading)) result (world shelf out err board (map view items)) (world shelf new_out err new_board (map view now))
+asking_carries view items now place was new kind seed loading telling out new_out board new_board result shelf err found within at is tells serves =
     let seen : slice_get (map view items) place ≡ Some (view was) = slice_get-map view items place ∙ ap (option_map view) (got items place was within at) in
     let of : (view was).kind ≡ kind = first_is kind (map view items) place (view was) found seen in
+    let told : Tells (telling kind) out new_out board new_board result = subst (λ k. Tells (telling k) out new_out board new_board result) of tells in
     let asked : Serves (asked_of kind seed loading) (view was) (view new) result = subst (λ k. Serves (asked_of k seed loading) (view was) (view new) result) of serves in
     let after : map view now ≡ set (map view items) place (view new) = ap (map view) is ∙ map_set view items place new in
-    subst (λ policies. Carries (asking_outcome stages (asked_of kind seed loading)) result (world shelf out err board (map view items)) (world shelf new_out err new_board policies)) (sym after)
-    (carries_asking stages (asked_of kind seed loading) out new_out board new_board (map view items) place (view was) (view new) result shelf err delivers asked found seen)
+    subst (λ policies. Carries (asking_outcome (telling kind) (asked_of kind seed loading)) result (world shelf out err board (map view items)) (world shelf new_out err new_board policies)) (sym after)
+    (carries_asking (telling kind) (asked_of kind seed loading) out new_out board new_board (map view items) place (view was) (view new) result shelf err told asked found seen)
 
 -- a policy that is there is found
 pub none_there : (kind : Kind) (policies : List Chooser) → HasPolicy (Some kind) policies → first_of kind policies ≡ None → ⊥

@@ -1,21 +1,26 @@
-ghost use Rattle.std.specs.Prelude.{List, length, map};
+ghost use Rattle.std.specs.Prelude.{◌≤◌, List, Some, length, map};
+ghost use Rattle.c6x_spec.specs.Memory.{Memory};
 ghost use Rattle.c6x_policy.specs.Chooser.{Chooser};
 ghost use Rattle.c6x_ports.specs.Shelf.{Shelved};
 ghost use Rattle.c6x_ports.specs.Sink.{Taken};
 ghost use Rattle.c6x_cli.specs.Meaning.{CanCommit, HasPolicy, asks, is_store, outcome_of};
 ghost use Rattle.c6x_cli_loading.specs.Placing.{CanLoad};
-ghost use Rattle.c6x_cli_run.specs.Stages.{asked_of, map_stages, run_stages};
-ghost use Rattle.c6x_cli_steps.specs.Exits.{Carries, asking_outcome, put_outcome};
+ghost use Rattle.c6x_cli_run.specs.Stages.{asked_of, map_stages, run_telling};
+ghost use Rattle.c6x_cli_show.specs.Stages.{code_stages, show_stages};
+ghost use Rattle.c6x_cli_exits.specs.Exits.{Carries, asking_outcome, put_outcome, store_outcome};
 ghost use Rattle.c6x_cli_steps.specs.Stores.{KeepsWriteFaults};
 ghost use Rattle.c6x_cli_steps.specs.World.{world};
 
 use crate::prepared::Prepared;
 use crate::serving::first_policy;
+use c6x_base::{Bytes, Name};
 use c6x_board::Board;
 use c6x_cli_loading::Loading;
 use c6x_cli_objects::store_file;
 use c6x_cli_run::{put_map, put_run};
+use c6x_cli_show::{put_code, put_show};
 use c6x_cli_steps::CommitError;
+use c6x_elf::File;
 use c6x_policy::Kind;
 use c6x_ports::{Policy, Shelf, Sink};
 use std::alloc::Global;
@@ -37,12 +42,30 @@ pub fn commit<S: Shelf, O: Sink>(
     ensures write_faults { KeepsWriteFaults (is_store prepared) (S.seen shelf.old) (S.seen shelf.new) }
 {
     match prepared {
+        Prepared::Dis(file) => commit_dis(&file, out),
+        Prepared::Show(file) => commit_show(&file, out),
         Prepared::Map(loading) => commit_map(&loading, out, board),
-        Prepared::Run(loading, kind, seed) => {
-            commit_run(alloc, &loading, kind, seed, out, board, policies)
+        Prepared::Run(loading, kind, seed, turns) => {
+            commit_run(alloc, &loading, kind, seed, turns, out, board, policies)
         }
-        Prepared::Store(name, bytes) => store_file(alloc, shelf, &name, &bytes),
+        Prepared::Store(name, bytes) => commit_store(alloc, shelf, &name, &bytes),
     }
+}
+
+/// Lists the code of a file.
+fn commit_dis<O: Sink>(file: &File, out: &mut O) -> Result<(), CommitError>
+    ensures { (shelf : Shelved) → (err : Taken) → (board : Memory) → (policies : List Chooser) → Carries (put_outcome (code_stages file.now board)) result
+        (world shelf (O.seen out.old) err board policies) (world shelf (O.seen out.new) err board policies) }
+{
+    put_code(file, out)
+}
+
+/// Tells what stands in a file.
+fn commit_show<O: Sink>(file: &File, out: &mut O) -> Result<(), CommitError>
+    ensures { (shelf : Shelved) → (err : Taken) → (board : Memory) → (policies : List Chooser) → Carries (put_outcome (show_stages file.now board)) result
+        (world shelf (O.seen out.old) err board policies) (world shelf (O.seen out.new) err board policies) }
+{
+    put_show(file, out)
 }
 
 /// Puts the report of `map` and writes the board.
@@ -54,24 +77,47 @@ fn commit_map<O: Sink>(loading: &Loading, out: &mut O, board: &mut Board) -> Res
     put_map(loading, out, board)
 }
 
+/// Stores these bytes under the name.
+fn commit_store<S: Shelf>(
+    alloc: Global,
+    shelf: &mut S,
+    name: &Name,
+    bytes: &Bytes,
+) -> Result<(), CommitError>
+    ensures carries { (out err : Taken) → (board : Memory) → (policies : List Chooser) → Carries (store_outcome name.now bytes.now board) result
+        (world (S.seen shelf.old) out err board policies) (world (S.seen shelf.new) out err board policies) }
+    ensures counted { (S.seen shelf.old).write_faults ≤ (S.seen shelf.new).write_faults }
+{
+    store_file(alloc, shelf, name, bytes)
+}
+
 /// Puts the report of `run`, runs the processes under the first policy of the kind and writes the board.
 fn commit_run<O: Sink>(
     alloc: Global,
     loading: &Loading,
     kind: Kind,
     seed: u32,
+    turns: bool,
     out: &mut O,
     board: &mut Board,
     policies: &mut Vec<Box<dyn Policy>>,
 ) -> Result<(), CommitError>
     requires loads { CanLoad board.old.base (length board.old.bytes) loading.now }
     requires served { HasPolicy (Some kind) (map chooser policies.old.items) }
-    ensures { (shelf : Shelved) → (err : Taken) → Carries (asking_outcome (run_stages loading.now board.old) (asked_of kind seed loading.now)) result
+    ensures { (shelf : Shelved) → (err : Taken) → Carries (asking_outcome (run_telling turns kind seed loading.now board.old) (asked_of kind seed loading.now)) result
         (world shelf (O.seen out.old) err board.old (map chooser policies.old.items))
         (world shelf (O.seen out.new) err board.new (map chooser policies.new.items)) }
 {
     match first_policy(policies.as_slice(), kind) {
-        Some(place) => put_run(alloc, loading, seed, out, board, &mut policies[place]),
+        Some(place) => put_run(
+            alloc,
+            loading,
+            seed,
+            turns,
+            out,
+            board,
+            &mut policies[place],
+        ),
         None => unreachable!(),
     }
 }

@@ -1,12 +1,13 @@
 ghost use Rattle.std.specs.Prelude.{◌≡◌, ◌⊎◌, ℕ, All, List, Ok, Option, Some, map};
 ghost use Rattle.c6x_spec.specs.Files.{Files};
 ghost use Rattle.c6x_cli.specs.Meaning.{CanCommit, HasPolicy, asks, is_store, outcome_of, steps_of};
+ghost use Rattle.c6x_cli.specs.Relocating.{Relocates};
 ghost use Rattle.c6x_cli.specs.Serving.{EndsUsage, served};
 ghost use Rattle.c6x_cli_loads.specs.LinkedLoads.{HoldsBytes, LinkedLoads};
 ghost use Rattle.c6x_cli_objects.specs.Linking.{linking_steps};
-ghost use Rattle.c6x_cli_steps.specs.Exits.{Commits, Completes, Exits, LacksMemory, NoFault};
+ghost use Rattle.c6x_cli_exits.specs.Exits.{Commits, Completes, Exits, LacksMemory, NoFault};
 ghost use Rattle.c6x_cli_steps.specs.Policies.{KeepsPolicies};
-ghost use Rattle.c6x_cli_steps.specs.Statuses.{Keeps, Performs, Shows};
+ghost use Rattle.c6x_cli_exits.specs.Statuses.{Keeps, Performs, Shows};
 ghost use Rattle.c6x_cli_steps.specs.Stores.{KeepsWriteFaults};
 ghost use Rattle.c6x_cli_steps.specs.World.{world};
 ghost use Rattle.c6x_cli_words.specs.Requests.{IsReading, is_storing, kind_asked};
@@ -25,13 +26,14 @@ use std::alloc::Global;
 /// Does what the words ask for, over a shelf of files, an output, an error output, a board and policies, and gives the exit
 /// status.
 ///
-/// `as IN OUT` assembles the text IN and stores its object file as OUT; `ld PLAN OUT` links the objects of the link plan
-/// PLAN and stores the module as OUT; `map PLAN` lays the plan's processes out on the board and lists where everything
-/// stands and what the tables hold; `run PLAN` also runs them to their ends, in turns of the first policy of the kind that
-/// `--policy` names, which begins with the number of `--seed`, and tells how each ended, after how many cycles and with
-/// which output. Statuses: 0 where all was done, 2 where the words have no reading or no policy is of the kind, 3 where a
-/// file is missing, 4 where a rule is broken, 5 where a file could not be read, 6 where a sink, or the shelf in `as` and
-/// `ld`, could not write, and 7 where memory ran out. For each status but 0 one line is put on the error output.
+/// `as IN OUT` assembles the text IN and stores its object file as OUT; `ld PLAN OUT` links the objects of the link
+/// plan PLAN and stores the module as OUT; `dis IN` lists the code of the ELF file IN, and `show IN` tells what stands
+/// in it; `map PLAN` lays the plan's processes out on the board and lists where everything stands and what the tables
+/// hold; `run PLAN` also runs them to their ends, in turns of the first policy of the kind that `--policy` names, which
+/// begins with the number of `--seed`, and tells how each ended, after how many cycles and with which output. Statuses:
+/// 0 where all was done, 2 where the words have no reading or no policy is of the kind, 3 where a file is missing, 4
+/// where a rule is broken, 5 where a file could not be read, 6 where a sink, or the shelf in `as` and `ld`, could not
+/// write, and 7 where memory ran out. For each status but 0 one line is put on the error output.
 pub fn command<S: Shelf, O: Sink, E: Sink>(
     alloc: Global,
     words: Vec<Name>,
@@ -73,7 +75,14 @@ pub fn command<S: Shelf, O: Sink, E: Sink>(
     // The bytes that `ld` comes to are read as the module of the link, but for the rules L9 and L10 where the link breaks them.
     ensures loads { (told : Files) (plan bytes : List ℕ) → All HoldsBytes told
         → (linking_steps told plan).result ≡ Ok bytes → LinkedLoads told plan bytes }
+
+    // After status 0 of `map` and `run`, the entries of each link of which a module's file has the bytes hold their values
+    // in every process that uses the module: on the board for `map`, for `run` as the processes start.
+    ensures relocates { (read : Option Request) → IsReading words.items read
+        → (told : Files) → (S.seen shelf.old).files ≡ Some told → result ≡ 0
+        → Relocates (served read (map chooser policies.old.items)) told board.old board.new }
 {
+    let _ = board.len();
     match request_of(words, policies) {
         Some(request) => perform(alloc, request, shelf, out, err, board, policies),
         None => report_error(err, PrepareError::Because(Cause::Usage)),

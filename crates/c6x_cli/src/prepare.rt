@@ -1,5 +1,5 @@
 ghost use Rattle.std.specs.Prelude.{◌≡◌, true, false, None, Some, IfOk, length};
-ghost use Rattle.c6x_cli_words.specs.declared.request.Request.TheVariants.{Assemble as assemble_request, Link as link_request, Map as map_request, Run as run_request};
+ghost use Rattle.c6x_cli_words.specs.declared.request.Request.TheVariants.{Assemble as assemble_request, Dis as dis_request, Link as link_request, Map as map_request, Run as run_request, Show as show_request};
 ghost use Rattle.c6x_cli.specs.Meaning.{CanCommit, asks, is_store, outcome_of, request_steps};
 ghost use Rattle.c6x_cli_words.specs.Requests.{is_storing, kind_asked};
 ghost use Rattle.c6x_cli_loading.specs.Loading.{loading_steps};
@@ -9,6 +9,7 @@ ghost use Rattle.c6x_cli_steps.specs.Steps.{Prepares};
 use crate::prepared::Prepared;
 use c6x_base::Name;
 use c6x_board::Board;
+use c6x_cli_inputs::fetch_elf;
 use c6x_cli_loading::{Loading, prepare_loading};
 use c6x_cli_objects::{prepare_module, prepare_object};
 use c6x_cli_steps::PrepareError;
@@ -34,10 +35,15 @@ pub fn prepare<S: Shelf>(
             alloc, &input, output, shelf, board,
         ),
         Request::Link { plan, output } => prepare_linking(alloc, &plan, output, shelf, board),
+        Request::Dis { input } => prepare_dis(alloc, &input, shelf, board),
+        Request::Show { input } => prepare_show(alloc, &input, shelf, board),
         Request::Map { plan } => prepare_map(alloc, &plan, shelf, board),
-        Request::Run { plan, policy, seed } => {
-            prepare_run(alloc, &plan, policy, seed, shelf, board)
-        }
+        Request::Run {
+            plan,
+            policy,
+            seed,
+            turns,
+        } => { prepare_run(alloc, &plan, policy, seed, turns, shelf, board) }
     }
 }
 
@@ -75,6 +81,38 @@ fn prepare_linking<S: Shelf>(
     Ok(Prepared::Store(output, module))
 }
 
+/// Does all that `dis` decides before anything is written.
+fn prepare_dis<S: Shelf>(
+    alloc: Global,
+    input: &Name,
+    shelf: &mut S,
+    board: &Board,
+) -> Result<Prepared, PrepareError>
+    ensures prepares { Prepares (λ prepared. outcome_of prepared board.now) (λ told. request_steps (dis_request input.now) told board.now) (S.seen shelf.old) (S.seen shelf.new) result }
+    ensures ready { IfOk result (CanCommit board.now) }
+    ensures kind { IfOk result (λ prepared. is_store prepared ≡ false) }
+    ensures asks { IfOk result (λ prepared. asks prepared ≡ None) }
+{
+    let file = fetch_elf(alloc, shelf, input)?;
+    Ok(Prepared::Dis(file))
+}
+
+/// Does all that `show` decides before anything is written.
+fn prepare_show<S: Shelf>(
+    alloc: Global,
+    input: &Name,
+    shelf: &mut S,
+    board: &Board,
+) -> Result<Prepared, PrepareError>
+    ensures prepares { Prepares (λ prepared. outcome_of prepared board.now) (λ told. request_steps (show_request input.now) told board.now) (S.seen shelf.old) (S.seen shelf.new) result }
+    ensures ready { IfOk result (CanCommit board.now) }
+    ensures kind { IfOk result (λ prepared. is_store prepared ≡ false) }
+    ensures asks { IfOk result (λ prepared. asks prepared ≡ None) }
+{
+    let file = fetch_elf(alloc, shelf, input)?;
+    Ok(Prepared::Show(file))
+}
+
 /// What a plan comes to on this board.
 fn loading_on<S: Shelf>(
     alloc: Global,
@@ -110,14 +148,15 @@ fn prepare_run<S: Shelf>(
     plan: &Name,
     policy: Kind,
     seed: u32,
+    turns: bool,
     shelf: &mut S,
     board: &Board,
 ) -> Result<Prepared, PrepareError>
-    ensures prepares { Prepares (λ prepared. outcome_of prepared board.now) (λ told. request_steps (run_request plan.now policy seed) told board.now) (S.seen shelf.old) (S.seen shelf.new) result }
+    ensures prepares { Prepares (λ prepared. outcome_of prepared board.now) (λ told. request_steps (run_request plan.now policy seed turns) told board.now) (S.seen shelf.old) (S.seen shelf.new) result }
     ensures ready { IfOk result (CanCommit board.now) }
     ensures kind { IfOk result (λ prepared. is_store prepared ≡ false) }
     ensures asks { IfOk result (λ prepared. asks prepared ≡ Some policy) }
 {
     let loading = loading_on(alloc, shelf, plan, board)?;
-    Ok(Prepared::Run(loading, policy, seed))
+    Ok(Prepared::Run(loading, policy, seed, turns))
 }

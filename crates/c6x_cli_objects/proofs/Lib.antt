@@ -1,2 +1,1 @@
-pub mod StoreLemmas
 pub mod ObjectLemmas

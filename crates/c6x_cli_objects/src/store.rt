@@ -1,12 +1,7 @@
-ghost use Rattle.std.specs.Prelude.{◌≡◌, ◌≤◌, List, Some, OnOk};
+ghost use Rattle.std.specs.Prelude.{◌≡◌, ◌≤◌, Some, OnOk};
 ghost use Rattle.c6x_spec.specs.Files.{Rose};
-ghost use Rattle.c6x_spec.specs.Memory.{Memory};
-ghost use Rattle.c6x_policy.specs.Chooser.{Chooser};
-ghost use Rattle.c6x_ports.specs.Sink.{Taken};
 ghost use Rattle.c6x_cli_steps.specs.declared.commit_error.CommitError.TheVariants.{Memory as memory, WriteFault as write_fault};
-ghost use Rattle.c6x_cli_steps.specs.Exits.{Carries, store_outcome};
 ghost use Rattle.c6x_cli_steps.specs.Stores.{HasCutStore, HasStored};
-ghost use Rattle.c6x_cli_steps.specs.World.{world};
 
 use c6x_base::{Bytes, Name};
 use c6x_cli_steps::CommitError;
@@ -15,20 +10,6 @@ use std::alloc::Global;
 
 /// Stores these bytes under the name. Nothing else is written.
 pub fn store_file<S: Shelf>(
-    alloc: Global,
-    shelf: &mut S,
-    name: &Name,
-    bytes: &Bytes,
-) -> Result<(), CommitError>
-    ensures carries { (out err : Taken) → (board : Memory) → (policies : List Chooser) → Carries (store_outcome name.now bytes.now board) result
-        (world (S.seen shelf.old) out err board policies) (world (S.seen shelf.new) out err board policies) }
-    ensures counted { (S.seen shelf.old).write_faults ≤ (S.seen shelf.new).write_faults }
-{
-    store_bytes(alloc, shelf, name, bytes)
-}
-
-/// The same, in the shelf's words.
-fn store_bytes<S: Shelf>(
     alloc: Global,
     shelf: &mut S,
     name: &Name,

@@ -1,3 +1,4 @@
 pub mod Runs
 pub mod Delivering
 pub mod Loads
+pub mod Told

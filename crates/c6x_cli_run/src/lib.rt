@@ -5,6 +5,7 @@
 mod mapping;
 mod running;
 mod starting;
+mod telling;
 
 pub use mapping::put_map;
 pub use running::put_run;

@@ -11,9 +11,11 @@ ghost use Rattle.c6x_cli_turns.specs.Boards.{boards_at};
 ghost use Rattle.c6x_cli_loading.specs.Placing.{CanLoad};
 ghost use Rattle.c6x_cli_run.specs.Boards.{count_of, start_board, starts_of};
 ghost use Rattle.c6x_cli_run.specs.Runs.{AskedOnce, IsReady};
-ghost use Rattle.c6x_cli_run.specs.Stages.{asked_of, run_stages};
+ghost use Rattle.c6x_cli_turns.specs.Tellings.{Tells};
+ghost use Rattle.c6x_cli_run.specs.Stages.{asked_of, run_stages, run_telling};
 
 use crate::starting::load_plan;
+use crate::telling::put_told_run;
 use c6x_board::Board;
 use c6x_cli_loading::Loading;
 use c6x_cli_report::{put_bases, put_ends};
@@ -23,9 +25,31 @@ use c6x_sched::{Loaded, System};
 use std::alloc::Global;
 
 /// Loads the plan's processes on the board, lists where everything stands, gives the processes turns of the policy's
-/// choice up to the end of each, and tells how they ended. All memory is taken first. Where the lines on where everything
-/// stands could not be put, nothing runs.
+/// choice up to the end of each, and tells how they ended; with `turns` also each turn, behind it. All memory is taken
+/// first. Where the lines on where everything stands, or that of a turn, could not be put, nothing further runs.
+#[tactic(auto, using(crate::proofs::Told::told_as))]
 pub fn put_run<O: Sink>(
+    alloc: Global,
+    loading: &Loading,
+    seed: u32,
+    turns: bool,
+    out: &mut O,
+    board: &mut Board,
+    policy: &mut Box<dyn Policy>,
+) -> Result<(), CommitError>
+    requires { CanLoad board.old.base (length board.old.bytes) loading.now }
+    ensures tells { Tells (run_telling turns (chooser policy.old).kind seed loading.now board.old) (O.seen out.old) (O.seen out.new) board.old board.new result }
+    ensures serves { Serves (asked_of (chooser policy.old).kind seed loading.now) (chooser policy.old) (chooser policy.new) result }
+{
+    if turns {
+        put_told_run(alloc, loading, seed, out, board, policy)
+    } else {
+        put_untold_run(alloc, loading, seed, out, board, policy)
+    }
+}
+
+/// Does so with no turn told.
+fn put_untold_run<O: Sink>(
     alloc: Global,
     loading: &Loading,
     seed: u32,
@@ -85,7 +109,7 @@ fn run_to_ends(
 }
 
 /// Begins the policy.
-fn begin(policy: &mut Box<dyn Policy>, processes: u32, quantum: u32, seed: u32)
+pub(crate) fn begin(policy: &mut Box<dyn Policy>, processes: u32, quantum: u32, seed: u32)
     requires some { 1 ≤ processes }
     requires least { 1 ≤ quantum }
     requires most { quantum ≤ MOST_QUANTUM }

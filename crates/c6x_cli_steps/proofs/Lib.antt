@@ -2,4 +2,3 @@ pub mod Fetched
 pub mod Chains
 pub mod Policies
 pub mod Stages
-pub mod Performs

@@ -4,5 +4,3 @@ pub mod Stages
 pub mod Steps
 pub mod Lines
 pub mod Stores
-pub mod Exits
-pub mod Statuses

@@ -1,4 +1,4 @@
-use Rattle.std.specs.Prelude.{ℕ, List, ◌++◌, codes, decimal, length, nat_le, Result, Ok, Err, if◌then◌else◌}
+use Rattle.std.specs.Prelude.{◌≡◌, ◌⊎◌, ℕ, List, ◌++◌, codes, decimal, length, nat_le, Result, Ok, Err, if◌then◌else◌}
 use Rattle.c6x_elf.specs.Types.{ElfRule}
 use Rattle.c6x_elf.specs.ElfRules.{Short, Magic, Class, Data, Version, Machine, FileType, EntrySize, Index, NoNul, Large}
 use Rattle.c6x_cli_steps.specs.declared.cause.Refusal.{Refusal}
@@ -6,8 +6,17 @@ use Rattle.c6x_cli_steps.specs.declared.cause.Cause.{Cause}
 use Rattle.c6x_cli_steps.specs.declared.cause.Cause.TheVariants.{Usage, Missing, Refused}
 use Rattle.c6x_cli_steps.specs.declared.prepare_error.PrepareError.{PrepareError}
 use Rattle.c6x_cli_steps.specs.declared.prepare_error.PrepareError.TheVariants.{Because, ReadFault, Memory}
-use Rattle.c6x_spec.specs.Files.{Files}
+use Rattle.c6x_spec.specs.Files.{Files, Rose}
+use Rattle.c6x_spec.specs.Sinks.{Takes, TakesFront}
+use Rattle.c6x_ports.specs.Sink.{Taken}
 use Rattle.c6x_cli_steps.specs.Steps.{Steps, ◌>>=◌, fetched, own, most_bytes}
+
+-- A line was put on the error output: it was taken whole and the status is the one wanted, or a fault cut it and the
+-- status is 6.
+abbrev pub Reports : List ℕ → ℕ → ℕ → Taken → Taken → Type 0
+Reports line wanted status before after =
+    ((status ≡ wanted) × Takes line before.bytes after.bytes)
+    ⊎ ((status ≡ 6) × TakesFront line before.bytes after.bytes × Rose before.faults after.faults)
 
 -- The lines of the error output. Each ends with a newline.
 

@@ -1,7 +1,6 @@
 ghost use Rattle.std.specs.Prelude.{◌≡◌};
 ghost use Rattle.c6x_ports.specs.Sink.{Puts};
-ghost use Rattle.c6x_cli_steps.specs.Exits.{Reports};
-ghost use Rattle.c6x_cli_steps.specs.Lines.{error_line, error_status, refused_line, write_fault_line};
+ghost use Rattle.c6x_cli_steps.specs.Lines.{Reports, error_line, error_status, refused_line, write_fault_line};
 
 use crate::cause::{Cause, Refusal};
 use crate::prepare_error::PrepareError;

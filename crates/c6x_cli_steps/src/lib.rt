@@ -1,8 +1,8 @@
 //! What all commands of `c6x` are made of: steps over a shelf of files, the errors that stop them, the line and the status
-//! of each, and what a command leaves.
+//! of each, and stages that are put on an output.
 //!
 //! Nothing here knows what a command reads or makes. A crate of commands says in its own definitions what its steps come
-//! to (`Steps`) and what it leaves (`Outcome`), and proves its calls against the words of this crate.
+//! to (`Steps`), and proves its calls against the words of this crate.
 #![tactic(auto)]
 
 mod cause;

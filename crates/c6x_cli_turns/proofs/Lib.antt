@@ -1,2 +1,4 @@
 mod Tells
 pub mod Stands
+pub mod Tellings
+pub mod Games

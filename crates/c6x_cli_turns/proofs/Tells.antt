@@ -5,6 +5,7 @@ use Rattle.c6x_spec.specs.Memory.{Memory}
 use Rattle.c6x_spec.specs.Sinks.{Takes, TakesFront}
 use Rattle.c6x_spec.proofs.Puts.{takes_then}
 use Rattle.c6x_exec.specs.declared.process.Process.{Process}
+use Rattle.c6x_plan.specs.declared.process_plan.ProcessPlan.{ProcessPlan}
 use Rattle.c6x_policy.specs.Chooser.{Chooser}
 use Rattle.c6x_processes.specs.Together.{AllStand, AreApart}
 use Rattle.c6x_sched.specs.declared.system.System.{System}
@@ -15,16 +16,17 @@ use Rattle.c6x_sched.specs.System.{processes_of, quantum_of}
 use Rattle.c6x_sched.specs.Turns.{ready_of}
 use Rattle.c6x_sched.proofs.Plays.{told, open_is, next_is, state_is}
 use Rattle.c6x_cli_turns.specs.Told.{TellsOn, HasTold, IsToldCut}
-use Rattle.c6x_cli_turns.specs.TurnLines.{turn_line, line_of, turn_lines}
+use Rattle.c6x_cli_turns.specs.TurnLines.{line_of, names_of, turn_line, turn_lines}
 
-same_or : (names : List (List ℕ)) (k : ℕ) (d e : List ℕ) → k < length names → slice_index_or names k d ≡ slice_index_or names k e
-same_or [] k d e within = absurd (omega (arith, within))
-same_or (name ∷ names) zero d e within = refl
-same_or (name ∷ names) (suc k) d e within = same_or names k d e (omega (arith, within))
+name_is : (plans : List ProcessPlan) (k : ℕ) (other : ProcessPlan) → k < length plans → (slice_index_or plans k other).name ≡ slice_index_or (names_of plans) k []
+name_is [] k other within = absurd (omega (arith, within))
+name_is (first ∷ plans) zero other within = refl
+name_is (first ∷ plans) (suc k) other within = name_is plans k other (omega (arith, within))
 
 -- the line with the name at the turn's process
-pub line_is : (names : List (List ℕ)) (turn : Turn) (name : List ℕ) → turn.process < length names → name ≡ slice_index_or names turn.process name → turn_line name turn.cycles ≡ line_of names (told turn)
-line_is names turn name within is = ap (λ (one : List ℕ). turn_line one turn.cycles) (is ∙ same_or names turn.process name [] within)
+pub line_is : (plans : List ProcessPlan) (turn : Turn) (other : ProcessPlan) → turn.process < length plans → turn_line (slice_index_or plans turn.process other).name turn.cycles ≡ line_of (names_of plans) (told turn)
+line_is plans turn other within =
+    ap (λ (name : List ℕ). turn_line name turn.cycles) (name_is plans turn.process other within)
 
 takes_none : (now : Option (List ℕ)) → Takes [] now now
 takes_none None = record { appended = refl }

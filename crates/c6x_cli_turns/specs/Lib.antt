@@ -2,3 +2,4 @@ pub mod TurnLines
 pub mod Told
 pub mod Boards
 pub mod Laws
+pub mod Tellings

@@ -1,10 +1,15 @@
 -- The lines that tell turns.
-use Rattle.std.specs.Prelude.{ℕ, List, [], ◌∷◌, ◌++◌, codes, decimal, slice_index_or}
+use Rattle.std.specs.Prelude.{ℕ, List, [], ◌∷◌, ◌++◌, codes, decimal, map, slice_index_or}
+use Rattle.c6x_plan.specs.declared.process_plan.ProcessPlan.{ProcessPlan}
 use Rattle.c6x_sched.specs.Play.{Played}
 
 -- The process's name, and how many cycles it did.
 unfoldable pub turn_line : List ℕ → ℕ → List ℕ
 turn_line process cycles = codes "turn " ++ process ++ codes " " ++ decimal cycles ++ codes "\n"
+
+-- The names of the processes of a plan.
+abbrev pub names_of : List ProcessPlan → List (List ℕ)
+names_of plans = map (λ (plan : ProcessPlan). plan.name) plans
 
 -- The line of a turn, where these are the names of the processes.
 abbrev pub line_of : List (List ℕ) → Played → List ℕ

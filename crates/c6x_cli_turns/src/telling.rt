@@ -1,4 +1,4 @@
-ghost use Rattle.std.specs.Prelude.{◌≡◌, ◌≤◌, ℕ, [], length, OnErr, OnOk};
+ghost use Rattle.std.specs.Prelude.{◌≡◌, ◌≢◌, ◌≤◌, ℕ, [], length, OnErr, OnOk};
 ghost use Rattle.c6x_spec.specs.Files.{Rose};
 ghost use Rattle.c6x_machine.specs.Origin.{Origin};
 ghost use Rattle.c6x_ports.specs.Sink.{Puts};
@@ -7,10 +7,11 @@ ghost use Rattle.c6x_sched.specs.Play.{game_of};
 ghost use Rattle.c6x_sched.specs.System.{processes_of, quantum_of};
 ghost use Rattle.c6x_sched.specs.Turns.{ready_of};
 ghost use Rattle.c6x_cli_turns.specs.Told.{TellsTurns};
-ghost use Rattle.c6x_cli_turns.specs.TurnLines.{turn_line};
+ghost use Rattle.c6x_cli_turns.specs.TurnLines.{names_of, turn_line};
 
 use c6x_base::Name;
 use c6x_board::Board;
+use c6x_plan::ProcessPlan;
 use c6x_ports::{Policy, Sink, SinkError, put_parts};
 use c6x_sched::System;
 use itoa::Buffer;
@@ -30,23 +31,26 @@ fn put_turn<O: Sink>(out: &mut O, process: &Name, cycles: u32) -> Result<(), Sin
 pub fn play_turns<O: Sink>(
     system: &mut System,
     policy: &mut Box<dyn Policy>,
-    names: &[Name],
+    plans: &[ProcessPlan],
     out: &mut O,
     board: &mut Board,
 ) -> Result<(), SinkError>
     requires on_board { AllLieOn board.old (processes_of system.old) }
-    requires names { length names.now ≡ length (processes_of system.old) }
+    requires plans { length plans.now ≡ length (processes_of system.old) }
     ensures tells { (s : ℕ → Origin) (n : ℕ → ℕ) → AreApart (processes_of system.old)
         → AllStand (processes_of system.old) board.old s n
-        → TellsTurns names.now (game_of (processes_of system.old) (quantum_of system.old) (chooser policy.old) s n) (processes_of system.new) board.new (chooser policy.new).state (O.seen out.old) (O.seen out.new) result }
+        → TellsTurns (names_of plans.now) (game_of (processes_of system.old) (quantum_of system.old) (chooser policy.old) s n) (processes_of system.new) board.new (chooser policy.new).state (O.seen out.old) (O.seen out.new) result }
     ensures done { OnOk result (ready_of (processes_of system.new) ≡ []) }
     ensures frame { AreFramed (processes_of system.old) board.old board.new }
+    ensures count { length (processes_of system.new) ≡ length (processes_of system.old) }
+    ensures kind { (chooser policy.new).kind ≡ (chooser policy.old).kind }
+    ensures answered { OnOk result (ready_of (processes_of system.old) ≢ [] → Rose (chooser policy.old).answers (chooser policy.new).answers) }
     ensures failed { OnErr result (Rose (O.seen out.old).faults (O.seen out.new).faults) }
     ensures kept { (O.seen out.old).faults ≤ (O.seen out.new).faults }
 {
     'turns: loop {
         match system.step(board, policy) {
-            Some(turn) => put_turn(out, &names[turn.process as usize], turn.cycles)?,
+            Some(turn) => put_turn(out, &plans[turn.process as usize].name, turn.cycles)?,
             None => return Ok(()),
         }
     }

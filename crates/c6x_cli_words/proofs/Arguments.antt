@@ -1,10 +1,10 @@
-use Rattle.std.proofs.Common.{◌≡◌, ◌≢◌, ℕ, ◌≤◌, true, false, List, [], ◌∷◌, ◌++◌, length, refl, sym, ◌∙◌, ap, subst, append-nil, append_assoc, length-append, arith}
+use Rattle.std.proofs.Common.{◌≡◌, ◌≢◌, ℕ, ◌≤◌, ◌+◌, Bool, true, false, List, [], ◌∷◌, ◌++◌, length, refl, sym, ◌∙◌, ap, subst, append-nil, append_assoc, length-append, arith}
 use Rattle.std.specs.Prelude.{IsTrue, Option, None, Some, codes}
 use Rattle.std.specs.Option.{option_to_list}
 use Rattle.c6x_policy.specs.declared.kind.Kind.{Kind}
-use Rattle.c6x_cli_words.specs.Arguments.{AreSpelled, Begins, HasAdded, IsFull, is_positional, kind_named, number_of, plans_of, kinds_of, seeds_of}
+use Rattle.c6x_cli_words.specs.Arguments.{AreSpelled, Begins, HasAdded, IsFull, is_positional, kind_named, kinds_of, number_of, once_if, plans_of, seeds_of, times_told}
 use Rattle.c6x_cli_words.specs.declared.argument.Argument.{Argument}
-use Rattle.c6x_cli_words.specs.declared.argument.Argument.TheVariants.{Plan, Policy, Seed}
+use Rattle.c6x_cli_words.specs.declared.argument.Argument.TheVariants.{Plan, Policy, Seed, Turns}
 use Rattle.c6x_cli_words.specs.declared.run_words.RunWords.{RunWords}
 
 -- an option is no file
@@ -18,6 +18,11 @@ unfolding is_positional
 no_seed_file word is positional =
     let never : false ≡ true = subst (λ w. is_positional w ≡ true) is positional in absurd (cc)
 
+no_turns_file : (word : List ℕ) → word ≡ codes "--turns" → IsTrue (is_positional word) → ⊥
+unfolding is_positional
+no_turns_file word is positional =
+    let never : false ≡ true = subst (λ w. is_positional w ≡ true) is positional in absurd (cc)
+
 pub same_head : {A : Type 0} (x y : A) (xs ys : List A) → x ∷ xs ≡ y ∷ ys → x ≡ y
 same_head x y xs ys is = cc
 
@@ -26,6 +31,12 @@ same_tail x y xs ys is = cc
 
 other_options : codes "--policy" ≡ codes "--seed" → ⊥
 other_options is = let long : length (codes "--policy") ≡ length (codes "--seed") = ap length is in omega (arith, long)
+
+policy_turns : codes "--policy" ≡ codes "--turns" → ⊥
+policy_turns is = let long : length (codes "--policy") ≡ length (codes "--turns") = ap length is in omega (arith, long)
+
+seed_turns : codes "--seed" ≡ codes "--turns" → ⊥
+seed_turns is = let long : length (codes "--seed") ≡ length (codes "--turns") = ap length is in omega (arith, long)
 
 -- words begin with one argument
 pub one_argument : (a b : Argument) (words x y : List (List ℕ)) → Begins a words x → Begins b words y → (a ≡ b) × (x ≡ y)
@@ -51,6 +62,13 @@ one_argument (Seed k) (Seed l) words x y (digits, p) (other, q) =
     let spelled : digits ≡ other = same_head _ _ _ _ behind in
     let numbers : Some k ≡ Some l = sym p.1 ∙ (ap number_of spelled ∙ q.1) in
     (cc, same_tail _ _ _ _ behind)
+one_argument Turns Turns words x y p q = (refl, same_tail _ _ _ _ (sym p ∙ q))
+one_argument (Plan n) Turns words x y p q = absurd (no_turns_file n (same_head _ _ _ _ (sym p.0 ∙ q)) p.1)
+one_argument Turns (Plan m) words x y p q = absurd (no_turns_file m (same_head _ _ _ _ (sym q.0 ∙ p)) q.1)
+one_argument (Policy k) Turns words x y (name, p) q = absurd (policy_turns (same_head _ _ _ _ (sym p.0 ∙ q)))
+one_argument Turns (Policy l) words x y p (name, q) = absurd (policy_turns (same_head _ _ _ _ (sym q.0 ∙ p)))
+one_argument (Seed k) Turns words x y (digits, p) q = absurd (seed_turns (same_head _ _ _ _ (sym p.0 ∙ q)))
+one_argument Turns (Seed l) words x y p (digits, q) = absurd (seed_turns (same_head _ _ _ _ (sym q.0 ∙ p)))
 
 pub no_words : {A : Type 0} (x : A) (xs : List A) → [] ≡ x ∷ xs → ⊥
 no_words x xs is = let long : 0 ≡ length (x ∷ xs) = ap length is in omega (arith, long)
@@ -60,6 +78,7 @@ none_behind : (a : Argument) (rest : List (List ℕ)) → Begins a [] rest → �
 none_behind (Plan n) rest p = absurd (no_words _ _ p.0)
 none_behind (Policy k) rest (name, p) = absurd (no_words _ _ p.0)
 none_behind (Seed k) rest (digits, p) = absurd (no_words _ _ p.0)
+none_behind Turns rest p = absurd (no_words _ _ p)
 
 -- words are spelled by one list of arguments
 pub one_spelling : (a b : List Argument) (words : List (List ℕ)) → AreSpelled a words → AreSpelled b words → a ≡ b
@@ -76,18 +95,37 @@ plans_behind [] ys = refl
 plans_behind (Plan n ∷ xs) ys = ap (λ more. n ∷ more) (plans_behind xs ys)
 plans_behind (Policy k ∷ xs) ys = plans_behind xs ys
 plans_behind (Seed k ∷ xs) ys = plans_behind xs ys
+plans_behind (Turns ∷ xs) ys = plans_behind xs ys
 
 pub kinds_behind : (xs ys : List Argument) → kinds_of (xs ++ ys) ≡ kinds_of xs ++ kinds_of ys
 kinds_behind [] ys = refl
 kinds_behind (Plan n ∷ xs) ys = kinds_behind xs ys
 kinds_behind (Policy k ∷ xs) ys = ap (λ more. k ∷ more) (kinds_behind xs ys)
 kinds_behind (Seed k ∷ xs) ys = kinds_behind xs ys
+kinds_behind (Turns ∷ xs) ys = kinds_behind xs ys
 
 pub seeds_behind : (xs ys : List Argument) → seeds_of (xs ++ ys) ≡ seeds_of xs ++ seeds_of ys
 seeds_behind [] ys = refl
 seeds_behind (Plan n ∷ xs) ys = seeds_behind xs ys
 seeds_behind (Policy k ∷ xs) ys = seeds_behind xs ys
 seeds_behind (Seed k ∷ xs) ys = ap (λ more. k ∷ more) (seeds_behind xs ys)
+seeds_behind (Turns ∷ xs) ys = seeds_behind xs ys
+
+none_plus : (n : ℕ) → n ≡ 0 + n
+none_plus n = omega arith
+
+plus_none : (n : ℕ) → n + 0 ≡ n
+plus_none n = omega arith
+
+one_more : (m n : ℕ) → 1 + (m + n) ≡ 1 + m + n
+one_more m n = omega arith
+
+pub told_behind : (xs ys : List Argument) → times_told (xs ++ ys) ≡ times_told xs + times_told ys
+told_behind [] ys = none_plus (times_told ys)
+told_behind (Plan n ∷ xs) ys = told_behind xs ys
+told_behind (Policy k ∷ xs) ys = told_behind xs ys
+told_behind (Seed k ∷ xs) ys = told_behind xs ys
+told_behind (Turns ∷ xs) ys = ap (λ (n : ℕ). 1 + n) (told_behind xs ys) ∙ one_more (times_told xs) (times_told ys)
 
 -- What the words up to these have said.
 pub record Reads (words rest : List (List ℕ)) (said : RunWords) : Type 0 where
@@ -97,8 +135,9 @@ pub record Reads (words rest : List (List ℕ)) (said : RunWords) : Type 0 where
   pub plans : plans_of done ≡ option_to_list said.plan
   pub kinds : kinds_of done ≡ option_to_list said.policy
   pub seeds : seeds_of done ≡ option_to_list said.seed
+  pub told : times_told done ≡ once_if said.turns
 
-pub reads_first : (words : List (List ℕ)) → Reads words words (record { plan = None; policy = None; seed = None })
+pub reads_first : (words : List (List ℕ)) → Reads words words (record { plan = None; policy = None; seed = None; turns = false })
 reads_first words = record {
   done = [];
   leads = λ later spelled. spelled;
@@ -106,6 +145,7 @@ reads_first words = record {
   plans = refl;
   kinds = refl;
   seeds = refl;
+  told = refl;
 }
 
 -- the arguments behind one that is known
@@ -126,16 +166,25 @@ with_plan done (Plan n) said now is added =
     plans_behind done (Plan n ∷ []) ∙ rw (is, added.0, added.1) refl
 with_plan done (Policy k) said now is added = plans_behind done (Policy k ∷ []) ∙ rw (is, added.1) (append-nil _)
 with_plan done (Seed k) said now is added = plans_behind done (Seed k ∷ []) ∙ rw (is, added.1) (append-nil _)
+with_plan done Turns said now is added = plans_behind done (Turns ∷ []) ∙ rw (is, added.1) (append-nil _)
 
 with_kind : (done : List Argument) (argument : Argument) (said now : RunWords) → kinds_of done ≡ option_to_list said.policy → HasAdded said argument now → kinds_of (done ++ argument ∷ []) ≡ option_to_list now.policy
 with_kind done (Plan n) said now is added = kinds_behind done (Plan n ∷ []) ∙ rw (is, added.1) (append-nil _)
 with_kind done (Policy k) said now is added = kinds_behind done (Policy k ∷ []) ∙ rw (is, added.0, added.1) refl
 with_kind done (Seed k) said now is added = kinds_behind done (Seed k ∷ []) ∙ rw (is, added.1) (append-nil _)
+with_kind done Turns said now is added = kinds_behind done (Turns ∷ []) ∙ rw (is, added.1) (append-nil _)
 
 with_seed : (done : List Argument) (argument : Argument) (said now : RunWords) → seeds_of done ≡ option_to_list said.seed → HasAdded said argument now → seeds_of (done ++ argument ∷ []) ≡ option_to_list now.seed
 with_seed done (Plan n) said now is added = seeds_behind done (Plan n ∷ []) ∙ rw (is, added.1) (append-nil _)
 with_seed done (Policy k) said now is added = seeds_behind done (Policy k ∷ []) ∙ rw (is, added.1) (append-nil _)
 with_seed done (Seed k) said now is added = seeds_behind done (Seed k ∷ []) ∙ rw (is, added.0, added.1) refl
+with_seed done Turns said now is added = seeds_behind done (Turns ∷ []) ∙ rw (is, added.1) (append-nil _)
+
+with_turns : (done : List Argument) (argument : Argument) (said now : RunWords) → times_told done ≡ once_if said.turns → HasAdded said argument now → times_told (done ++ argument ∷ []) ≡ once_if now.turns
+with_turns done (Plan n) said now is added = told_behind done (Plan n ∷ []) ∙ rw (is, added.1) (plus_none _)
+with_turns done (Policy k) said now is added = told_behind done (Policy k ∷ []) ∙ rw (is, added.1) (plus_none _)
+with_turns done (Seed k) said now is added = told_behind done (Seed k ∷ []) ∙ rw (is, added.1) (plus_none _)
+with_turns done Turns said now is added = told_behind done (Turns ∷ []) ∙ rw (is, added.0, added.1) refl
 
 -- one more argument was read
 pub reads_next : (words rest after : List (List ℕ)) (said now : RunWords) (argument : Argument) → Reads words rest said → Begins argument rest after → HasAdded said argument now → Reads words after now
@@ -149,6 +198,7 @@ reads_next words rest after said now argument reads begins added = record {
   plans = with_plan reads.done argument said now reads.plans added;
   kinds = with_kind reads.done argument said now reads.kinds added;
   seeds = with_seed reads.done argument said now reads.seeds added;
+  told = with_turns reads.done argument said now reads.told added;
 }
 
 nothing_later : (word : List ℕ) (more : List (List ℕ)) (later : List Argument) → ((argument : Argument) (after : List (List ℕ)) → Begins argument (word ∷ more) after → ⊥) → AreSpelled later (word ∷ more) → ⊥
@@ -188,17 +238,29 @@ two_seeds done later k o wanted is some one =
     let long : length (seeds_of done ++ seeds_of (Seed k ∷ later)) ≡ length (option_to_list wanted) = ap length (sym (seeds_behind done (Seed k ∷ later)) ∙ one) in
     omega (arith, length-append (seeds_of done) (seeds_of (Seed k ∷ later)), long, ap length is, one_there o some, at_most_one wanted)
 
+once_or_never : (told : Bool) → once_if told ≤ 1
+once_or_never true = omega arith
+once_or_never false = omega arith
+
+two_tellings : (done later : List Argument) (was wanted : Bool) → times_told done ≡ once_if was → was ≡ true → times_told (done ++ Turns ∷ later) ≡ once_if wanted → ⊥
+two_tellings done later was wanted is true_now one =
+    let both : times_told done + times_told (Turns ∷ later) ≡ once_if wanted = sym (told_behind done (Turns ∷ later)) ∙ one in
+    omega (arith, both, is ∙ ap once_if true_now, once_or_never wanted)
+
 -- so nothing can be run
-pub no_second : (words rest after : List (List ℕ)) (said : RunWords) (argument : Argument) → Reads words rest said → Begins argument rest after → IsFull said argument → (all : List Argument) (plan : List ℕ) (kind : Option Kind) (number : Option ℕ) → AreSpelled all words → plans_of all ≡ plan ∷ [] → kinds_of all ≡ option_to_list kind → seeds_of all ≡ option_to_list number → ⊥
-no_second words rest after said (Plan name) reads begins full all plan kind number spelled one kinds seeds =
+pub no_second : (words rest after : List (List ℕ)) (said : RunWords) (argument : Argument) → Reads words rest said → Begins argument rest after → IsFull said argument → (all : List Argument) (plan : List ℕ) (kind : Option Kind) (number : Option ℕ) (turns : Bool) → AreSpelled all words → plans_of all ≡ plan ∷ [] → kinds_of all ≡ option_to_list kind → seeds_of all ≡ option_to_list number → times_told all ≡ once_if turns → ⊥
+no_second words rest after said (Plan name) reads begins full all plan kind number turns spelled one kinds seeds told =
     let found = all_later words rest after said (Plan name) reads begins all spelled in
     two_plans reads.done found.0 name plan said.plan reads.plans full (ap plans_of (sym found.1.0) ∙ one)
-no_second words rest after said (Policy k) reads begins full all plan kind number spelled one kinds seeds =
+no_second words rest after said (Policy k) reads begins full all plan kind number turns spelled one kinds seeds told =
     let found = all_later words rest after said (Policy k) reads begins all spelled in
     two_kinds reads.done found.0 k said.policy kind reads.kinds full (ap kinds_of (sym found.1.0) ∙ kinds)
-no_second words rest after said (Seed k) reads begins full all plan kind number spelled one kinds seeds =
+no_second words rest after said (Seed k) reads begins full all plan kind number turns spelled one kinds seeds told =
     let found = all_later words rest after said (Seed k) reads begins all spelled in
     two_seeds reads.done found.0 k said.seed number reads.seeds full (ap seeds_of (sym found.1.0) ∙ seeds)
+no_second words rest after said Turns reads begins full all plan kind number turns spelled one kinds seeds told =
+    let found = all_later words rest after said Turns reads begins all spelled in
+    two_tellings reads.done found.0 said.turns turns reads.told full (ap times_told (sym found.1.0) ∙ told)
 
 nothing_behind : (later : List Argument) → AreSpelled later [] → later ≡ []
 nothing_behind [] spelled = refl
@@ -224,6 +286,7 @@ pub no_policy : (more : List (List ℕ)) → ((name : List ℕ) (rest : List (Li
 no_policy more never (Plan n) after p = no_policy_file n (sym (same_head _ _ _ _ p.0)) p.1
 no_policy more never (Policy k) after (name, p) = never name after k (same_tail _ _ _ _ p.0) p.1
 no_policy more never (Seed k) after (digits, p) = other_options (same_head _ _ _ _ p.0)
+no_policy more never Turns after p = policy_turns (same_head _ _ _ _ p)
 
 pub no_kind : (more : List (List ℕ)) (name : List ℕ) (rest : List (List ℕ)) → more ≡ name ∷ rest → kind_named name ≡ None → (argument : Argument) (after : List (List ℕ)) → Begins argument (codes "--policy" ∷ more) after → ⊥
 no_kind more name rest is none =
@@ -237,6 +300,7 @@ pub no_seed : (more : List (List ℕ)) → ((digits : List ℕ) (rest : List (Li
 no_seed more never (Plan n) after p = no_seed_file n (sym (same_head _ _ _ _ p.0)) p.1
 no_seed more never (Policy k) after (name, p) = other_options (sym (same_head _ _ _ _ p.0))
 no_seed more never (Seed k) after (digits, p) = never digits after k (same_tail _ _ _ _ p.0) p.1
+no_seed more never Turns after p = seed_turns (same_head _ _ _ _ p)
 
 pub no_number : (more : List (List ℕ)) (digits : List ℕ) (rest : List (List ℕ)) → more ≡ digits ∷ rest → number_of digits ≡ None → (argument : Argument) (after : List (List ℕ)) → Begins argument (codes "--seed" ∷ more) after → ⊥
 no_number more digits rest is none =
@@ -245,9 +309,10 @@ no_number more digits rest is none =
 pub no_seed_word : (more : List (List ℕ)) → more ≡ [] → (argument : Argument) (after : List (List ℕ)) → Begins argument (codes "--seed" ∷ more) after → ⊥
 no_seed_word more is = no_seed more (λ digits after number same spelled. no_words _ _ (sym is ∙ same))
 
--- a word that is neither option and no file
-pub no_file : (word : List ℕ) (more : List (List ℕ)) → word ≢ codes "--policy" → word ≢ codes "--seed" → is_positional word ≡ false → (argument : Argument) (after : List (List ℕ)) → Begins argument (word ∷ more) after → ⊥
-no_file word more a b none (Plan n) after p =
+-- a word that is no option and no file
+pub no_file : (word : List ℕ) (more : List (List ℕ)) → word ≢ codes "--policy" → word ≢ codes "--seed" → word ≢ codes "--turns" → is_positional word ≡ false → (argument : Argument) (after : List (List ℕ)) → Begins argument (word ∷ more) after → ⊥
+no_file word more a b c none (Plan n) after p =
     let never : false ≡ true = sym none ∙ (ap is_positional (same_head _ _ _ _ p.0) ∙ p.1) in absurd (cc)
-no_file word more a b none (Policy k) after (name, p) = a (same_head _ _ _ _ p.0)
-no_file word more a b none (Seed k) after (digits, p) = b (same_head _ _ _ _ p.0)
+no_file word more a b c none (Policy k) after (name, p) = a (same_head _ _ _ _ p.0)
+no_file word more a b c none (Seed k) after (digits, p) = b (same_head _ _ _ _ p.0)
+no_file word more a b c none Turns after p = c (same_head _ _ _ _ p)

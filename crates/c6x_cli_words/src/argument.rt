@@ -18,6 +18,8 @@ pub enum Argument {
     Policy(Kind),
     /// Behind `--seed`, the number that it begins with.
     Seed(u32),
+    /// `--turns`: each turn is told.
+    Turns,
 }
 
 /// What the words say that begin with this one. `None` where no argument begins so.
@@ -31,6 +33,9 @@ pub(crate) fn argument_of(word: Name, words: &mut Words) -> Option<Argument>
     }
     if bytes == b"--seed".as_slice() {
         return seed_in(words);
+    }
+    if bytes == b"--turns".as_slice() {
+        return Some(Argument::Turns);
     }
     if is_file_name(bytes) {
         return Some(Argument::Plan(word));

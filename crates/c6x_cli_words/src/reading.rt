@@ -32,6 +32,14 @@ fn parse_verb(verb: &Name, words: Words) -> Option<Request>
         let (plan, output) = two_files(words)?;
         return Some(Request::Link { plan, output });
     }
+    if verb == b"dis".as_slice() {
+        let input = one_file(words)?;
+        return Some(Request::Dis { input });
+    }
+    if verb == b"show".as_slice() {
+        let input = one_file(words)?;
+        return Some(Request::Show { input });
+    }
     if verb == b"map".as_slice() {
         let plan = one_file(words)?;
         return Some(Request::Map { plan });

@@ -18,6 +18,7 @@ pub struct RunWords {
     plan: Option<Name>,
     policy: Option<Kind>,
     seed: Option<u32>,
+    turns: bool,
 }
 
 /// What the words behind `run` ask for.
@@ -28,6 +29,7 @@ pub(crate) fn parse_run(mut words: Words) -> Option<Request>
         plan: None,
         policy: None,
         seed: None,
+        turns: false,
     };
     'words: while let Some(word) = words.next() {
         let argument = argument_of(word, &mut words)?;
@@ -37,6 +39,7 @@ pub(crate) fn parse_run(mut words: Words) -> Option<Request>
         plan: said.plan?,
         policy: said.policy.unwrap_or(Kind::Round),
         seed: said.seed.unwrap_or(FIRST_SEED),
+        turns: said.turns,
     })
 }
 
@@ -49,6 +52,7 @@ fn with_argument(mut said: RunWords, argument: Argument) -> Option<RunWords>
         Argument::Plan(name) if said.plan.is_none() => said.plan = Some(name),
         Argument::Policy(kind) if said.policy.is_none() => said.policy = Some(kind),
         Argument::Seed(seed) if said.seed.is_none() => said.seed = Some(seed),
+        Argument::Turns if !said.turns => said.turns = true,
         _ => return None,
     }
     Some(said)

@@ -1,8 +1,9 @@
 use Rattle.std.proofs.Common.{sym, []}
 use Rattle.c6x_cli_loads.proofs.LoadsRead.{linked_loads}
-use Rattle.c6x_cli_steps.proofs.Performs.{completes, exits_performed, keeps_performed, policies_performed, shows_performed}
+use Rattle.c6x_cli_exits.proofs.Performs.{completes, exits_performed, keeps_performed, policies_performed, shows_performed}
 use Rattle.c6x_cli.proofs.Misread.{exits_misread, keeps_misread, policies_misread, shows_misread, stopped_misread, usage_misread, usage_performed}
 use Rattle.c6x_cli.proofs.OutcomeKinds.{performs_read}
+use Rattle.c6x_cli.proofs.Relocated.{relocates}
 use Rattle.c6x_cli.proofs.dispatch.command.Goals as goal
 
 pub returns-in-Some-clause-exits : goal.returns-in-Some-clause-exits
@@ -55,3 +56,15 @@ returns-in-Some-clause-loads g c = linked_loads
 
 pub returns-in-None-clause-loads : goal.returns-in-None-clause-loads
 returns-in-None-clause-loads g c = linked_loads
+
+pub returns-in-Some-clause-relocates : goal.returns-in-Some-clause-relocates
+returns-in-Some-clause-relocates g c = λ read is told tells zero.
+    let exits = exits_performed _ _ _ _ _ _ told
+    (performs_read _ _ c.args.board.now _ _ _ (sym (c.in-Some.ensures.served read is)) c.perform.ensures) tells in
+    relocates _ told _ _ _ exits c.len.ensures.whole zero
+
+pub returns-in-None-clause-relocates : goal.returns-in-None-clause-relocates
+returns-in-None-clause-relocates g c = λ read is told tells zero.
+    let exits = exits_misread _ told _ _ _ _ (sym (c.in-None.ensures.served read is))
+    (stopped_misread _ (g.S.Shelf.seen c.args.shelf.now) (g.O.Sink.seen c.args.out.now) _ _ c.args.board.now [] c.report_error.ensures) in
+    relocates _ told _ _ _ exits c.len.ensures.whole zero

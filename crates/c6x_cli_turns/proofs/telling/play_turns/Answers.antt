@@ -1,7 +1,7 @@
-use Rattle.std.proofs.Common.{◌∙◌, ℕ, List, subst, rules, arith}
+use Rattle.std.proofs.Common.{◌∙◌, ℕ, List, subst, inl, inr, refl, rules, arith}
 use Rattle.c6x_spec.specs.Sinks.{Takes, TakesFront}
 use Rattle.c6x_spec.proofs.Puts.{on_err}
-use Rattle.c6x_sched.proofs.Plays.{areas_next, framed_next, framed_first, areas_first}
+use Rattle.c6x_sched.proofs.Plays.{areas_first, areas_next, asked_next, framed_first, framed_next}
 use Rattle.c6x_cli_turns.proofs.Tells.{line_is, tells_first, tells_next, tells_cut, tells_end}
 use Rattle.c6x_cli_turns.proofs.telling.play_turns.Goals as goal
 
@@ -14,6 +14,7 @@ turns-init g c = record {
   apart = λ a. a;
   areas = areas_first _;
   frame = framed_first _ _;
+  asked = inl (refl, refl, refl);
   tells = λ s n apart stand. tells_first _ _ _ _ _ stand;
   kept = search rules;
 }
@@ -27,9 +28,10 @@ turns-preserved g c = record {
   apart = λ a. c.in-Some.ensures.turned.turned.apart (c.turns.invariant.apart a);
   areas = areas_next _ _ _ c.in-Some.ensures.turned.turned.length c.turns.invariant.areas c.in-Some.ensures.turned.turned.areas;
   frame = framed_next _ _ _ _ _ _ c.in-Some.ensures.turned.turned.within c.turns.invariant.count c.turns.invariant.areas c.in-Some.ensures.turned.turned.frame c.turns.invariant.frame;
+  asked = inr (asked_next _ _ _ _ _ _ c.turns.invariant.asked c.in-Some.ensures.turned.some c.in-Some.ensures.turned.chosen.answered);
   tells = λ s n apart stand. tells_next _ _ _ _ _ _ _ _ _ _ _ _ c.turns.invariant.kind c.turns.invariant.quantum c.turns.invariant.count (c.turns.invariant.apart apart) c.in-Some.ensures.turned
       (let P : List ℕ → Type 0 = λ text. Takes text (g.O.Sink.seen c.turns.out).bytes (g.O.Sink.seen c.put_turn.new.out).bytes in
-      subst P (line_is c.args.names.now c.in-Some.turn c.index-names-turn.result (omega (arith, c.in-Some.ensures.turned.turned.within, c.turns.invariant.count, c.requires.names)) c.index-names-turn.is) c.in_ok-put_turn-in-Some.ensures.all)
+      subst P (line_is c.args.plans.now c.in-Some.turn c.index-plans-turn.result (omega (arith, c.in-Some.ensures.turned.turned.within, c.turns.invariant.count, c.requires.plans))) c.in_ok-put_turn-in-Some.ensures.all)
       (c.turns.invariant.tells s n apart stand);
   kept = search rules;
 }
@@ -43,7 +45,7 @@ returns-in_err-put_turn-in-Some-clause-tells g c s n apart stand = record {
   all = search rules;
   cut = on_err _ (tells_cut _ _ _ _ _ _ _ _ _ _ _ _ c.turns.invariant.kind c.turns.invariant.quantum c.turns.invariant.count (c.turns.invariant.apart apart) c.in-Some.ensures.turned
       (let P : List ℕ → Type 0 = λ text. TakesFront text (g.O.Sink.seen c.turns.out).bytes (g.O.Sink.seen c.put_turn.new.out).bytes in
-      subst P (line_is c.args.names.now c.in-Some.turn c.index-names-turn.result (omega (arith, c.in-Some.ensures.turned.turned.within, c.turns.invariant.count, c.requires.names)) c.index-names-turn.is) c.in_err-put_turn-in-Some.ensures.front)
+      subst P (line_is c.args.plans.now c.in-Some.turn c.index-plans-turn.result (omega (arith, c.in-Some.ensures.turned.turned.within, c.turns.invariant.count, c.requires.plans))) c.in_err-put_turn-in-Some.ensures.front)
       (c.turns.invariant.tells s n apart stand));
 }
 

@@ -7,8 +7,10 @@ use Rattle.c6x_exec.specs.declared.process.Process.{Process}
 use Rattle.c6x_processes.specs.Together.{AllStand, AreApart, AllLieOn, AreFramed}
 use Rattle.c6x_sched.specs.Play.{game_of}
 use Rattle.c6x_sched.specs.System.{processes_of, quantum_of}
-use Rattle.c6x_sched.specs.Turns.{all_left}
+use Rattle.c6x_sched.specs.Turns.{all_left, ready_of}
+use Rattle.c6x_sched.proofs.Plays.{IsAsked}
 use Rattle.c6x_cli_turns.specs.Told.{TellsOn}
+use Rattle.c6x_cli_turns.specs.TurnLines.{names_of}
 use Rattle.c6x_cli_turns.proofs.telling.play_turns.Given as goal
 
 abbrev pub invariant-turns : goal.invariant-turns
@@ -23,8 +25,9 @@ invariant-turns g l =
       apart : AreApart (processes_of l.fn.system) → AreApart (processes_of l.system);
       areas : (k : ℕ) (p q : Process) → slice_get (processes_of l.fn.system) k ≡ Some p → slice_get (processes_of l.system) k ≡ Some q → areas_of q ≡ areas_of p;
       frame : AreFramed (processes_of l.fn.system) l.fn.board l.board;
+      asked : IsAsked (ready_of (processes_of l.fn.system)) (ready_of (processes_of l.system)) was.answers now.answers (l.policy ≡ l.fn.policy);
       tells : (s : ℕ → Origin) (n : ℕ → ℕ) → AreApart (processes_of l.fn.system) → AllStand (processes_of l.fn.system) l.fn.board s n
-          → TellsOn l.names (game_of (processes_of l.fn.system) (quantum_of l.fn.system) was s n) (processes_of l.system) l.board now.state (g.O.Sink.seen l.fn.out).bytes (g.O.Sink.seen l.out).bytes;
+          → TellsOn (names_of l.plans) (game_of (processes_of l.fn.system) (quantum_of l.fn.system) was s n) (processes_of l.system) l.board now.state (g.O.Sink.seen l.fn.out).bytes (g.O.Sink.seen l.out).bytes;
       kept : (g.O.Sink.seen l.fn.out).faults ≤ (g.O.Sink.seen l.out).faults;
     }
 

@@ -1,5 +1,5 @@
-use Rattle.std.proofs.Common.{◌≡◌, ◌≢◌, ℕ, ◌≤◌, ◌⊎◌, Bool, true, false, List, [], refl, sym, ◌∙◌, ap, subst, inl, inr, arith}
-use Rattle.std.specs.Prelude.{Option, None, Some, Result, Ok, Err, IsTrue, set, slice_get}
+use Rattle.std.proofs.Common.{◌≡◌, ◌≢◌, ℕ, ◌≤◌, ◌⊎◌, Bool, true, false, List, [], ◌∷◌, refl, sym, ◌∙◌, ap, subst, inl, inr, arith}
+use Rattle.std.specs.Prelude.{Option, None, Some, Result, Ok, Err, OnOk, IsTrue, set, slice_get}
 use Rattle.c6x_spec.specs.Files.{Files, Rose}
 use Rattle.c6x_spec.specs.Memory.{Memory}
 use Rattle.c6x_policy.specs.Chooser.{Chooser}
@@ -12,16 +12,18 @@ use Rattle.c6x_cli_steps.specs.declared.prepare_error.PrepareError.{PrepareError
 use Rattle.c6x_cli_steps.specs.declared.prepare_error.PrepareError.TheVariants.{Because, ReadFault, Memory as NoMemory}
 use Rattle.c6x_cli_steps.specs.declared.commit_error.CommitError.{CommitError}
 use Rattle.c6x_cli_steps.specs.declared.commit_error.CommitError.TheVariants.{WriteFault, Memory as CommitMemory}
-use Rattle.c6x_cli_steps.specs.Exits.{Outcome, put_outcome, asking_outcome, store_outcome, Carries, Reports, Leaves, IsStopped, IsDone, CountsFault, CutsShort, Commits, LacksMemory, EndsAs, Exits, NoFault, HasReported, IsResult, Completes}
-use Rattle.c6x_cli_steps.specs.Lines.{line_of, status_of, error_line, error_status, memory_line, write_fault_line}
-use Rattle.c6x_cli_steps.specs.Statuses.{Shows, Keeps, IsOfKind, IsCarriedOut, IsPrevented, Performs}
+use Rattle.c6x_cli_exits.specs.Exits.{Outcome, put_outcome, asking_outcome, store_outcome, Carries, Leaves, IsStopped, IsDone, CountsFault, CutsShort, Commits, LacksMemory, EndsAs, Exits, NoFault, HasReported, IsResult, Completes}
+use Rattle.c6x_cli_steps.specs.Lines.{Reports, line_of, status_of, error_line, error_status, memory_line, write_fault_line}
+use Rattle.c6x_cli_exits.specs.Statuses.{Shows, Keeps, IsOfKind, IsCarriedOut, IsPrevented, Performs}
 use Rattle.c6x_cli_steps.specs.Policies.{Asked, asked_kind, first_of, Serves, HasAsked, MayHaveAsked, HasAskedKind, MayHaveAskedKind, KeepsPolicies}
-use Rattle.c6x_cli_steps.specs.Stages.{Stage, Delivers}
+use Rattle.c6x_cli_steps.specs.Stages.{Stage, CutsAt, Delivers}
 use Rattle.c6x_cli_steps.specs.Steps.{Steps, Stops, HasCause, Prepares}
 use Rattle.c6x_cli_steps.specs.Stores.{HasStored, HasCutStore, KeepsWriteFaults}
 use Rattle.c6x_cli_steps.specs.World.{World, world}
+use Rattle.c6x_cli_turns.specs.Tellings.{HasPut, IsPutCut, Telling, Tells, untold}
+use Rattle.c6x_cli_turns.proofs.Tellings.{tells_untold}
 use Rattle.c6x_cli_steps.proofs.Policies.{set_same}
-use Rattle.c6x_cli_steps.proofs.Stages.{takes_nothing, took_nothing, cut_nothing}
+use Rattle.c6x_cli_steps.proofs.Stages.{cut_nothing, cuts_nothing, takes_nothing, took_nothing}
 
 -- where nothing was written and no policy was asked, nothing is left
 pub leaves_nothing : (before after : World) → after.shelf.files ≡ before.shelf.files → after.out.bytes ≡ before.out.bytes → after.board ≡ before.board → after.policies ≡ before.policies → Leaves [] before after
@@ -185,8 +187,8 @@ keeps_stopped storing before after faults leaves = record {
 keeps_done : (storing : Bool) (outcome : Outcome) (before after : World) → IsOfKind storing before.board outcome → KeepsWriteFaults storing before.shelf after.shelf → IsDone outcome before after → Keeps storing before after
 keeps_done true outcome before after (name, (bytes, is)) faults done =
     let stored : IsDone (store_outcome name bytes before.board) before after = subst (λ o. IsDone o before after) is done in record {
-      out = λ _. took_nothing before.out.bytes after.out.bytes stored.out;
-      board = λ _. stored.board;
+      out = λ _. took_nothing before.out.bytes after.out.bytes stored.put.taken;
+      board = λ _. stored.put.at;
       files = λ no_store. absurd (cc);
       write_faults = faults;
     }
@@ -197,18 +199,23 @@ keeps_done false outcome before after none faults done = record {
   write_faults = faults;
 }
 
+-- a cut of the one empty stage of a store
+cut_store : (board : Memory) (before now : Option (List ℕ)) (at : Memory) → IsPutCut (untold (record { text = []; board = board } ∷ [])) before now at → (now ≡ before) × (at ≡ board)
+cut_store board before now at cut = elim cut.cut [ inl some ↦ here some.1 | inr all ↦ here all.1 ]
+  where
+    here : CutsAt (record { text = []; board = board } ∷ []) before now at → (now ≡ before) × (at ≡ board)
+    here cuts = elim cuts [ inl first ↦ (cut_nothing before now first.0, first.1) | inr earlier ↦ absurd earlier ]
+
 keeps_cut : (storing : Bool) (outcome : Outcome) (before after : World) → IsOfKind storing before.board outcome → KeepsWriteFaults storing before.shelf after.shelf → CutsShort outcome before after → Keeps storing before after
 keeps_cut true outcome before after (name, (bytes, is)) faults cut =
     let stored : CutsShort (store_outcome name bytes before.board) before after = subst (λ o. CutsShort o before after) is cut in
-    elim stored.out [
-      | inl here ↦ record {
-        out = λ _. cut_nothing before.out.bytes after.out.bytes here.0;
-        board = λ _. here.1;
-        files = λ no_store. absurd (cc);
-        write_faults = faults;
-      }
-      | inr earlier ↦ absurd earlier
-    ]
+    let kept = cut_store before.board before.out.bytes after.out.bytes after.board stored.put in
+    record {
+      out = λ _. kept.0;
+      board = λ _. kept.1;
+      files = λ no_store. absurd (cc);
+      write_faults = faults;
+    }
 keeps_cut false outcome before after none faults cut = record {
   out = λ storing. absurd (cc);
   board = λ storing. absurd (cc);
@@ -301,43 +308,64 @@ policies_performed steps storing asking status before after performs = elim perf
       policies_stopped (error_line prevented.error) (error_status prevented.error) status asking before after (not_done prevented.error) prevented.stopped
 ]
 
--- stages that are put carry out a command that stores nothing and asks no policy
-pub carries_delivered : {A : Type 0} (stages : List Stage) (out new_out : Taken) (board new_board : Memory) (result : Result A CommitError) (shelf : Shelved) (err : Taken) (policies : List Chooser) → Delivers stages out new_out board new_board result → Carries (put_outcome stages) result (world shelf out err board policies) (world shelf new_out err new_board policies)
-carries_delivered stages out new_out board new_board (Ok _) shelf err policies d =
-    record { out = d.all; err = refl; board = d.at; files = refl; policies = refl }
-carries_delivered stages out new_out board new_board (Err WriteFault) shelf err policies d =
-    record { out = d.cut refl; files = refl; counts = d.failed refl; policies = refl }
-carries_delivered stages out new_out board new_board (Err CommitMemory) shelf err policies d = record {
+-- what is put carries out a command that stores nothing and asks no policy
+pub carries_told : {A : Type 0} (telling : Telling) (out new_out : Taken) (board new_board : Memory) (result : Result A CommitError) (shelf : Shelved) (err : Taken) (policies : List Chooser) → Tells telling out new_out board new_board result → Carries (record { telling = telling; stored = None; asked = None }) result (world shelf out err board policies) (world shelf new_out err new_board policies)
+carries_told telling out new_out board new_board (Ok _) shelf err policies d =
+    record { put = d.all; err = refl; files = refl; policies = refl }
+carries_told telling out new_out board new_board (Err WriteFault) shelf err policies d =
+    record { put = d.cut refl; files = refl; counts = d.failed refl; policies = refl }
+carries_told telling out new_out board new_board (Err CommitMemory) shelf err policies d = record {
   files = refl;
   out = takes_nothing out.bytes new_out.bytes (d.unwritten refl).0;
   board = (d.unwritten refl).1;
   policies = refl;
 }
 
--- stages that a policy was asked for carry out a command that asks it
-pub carries_asking : {A : Type 0} (stages : List Stage) (asked : Asked) (out new_out : Taken) (board new_board : Memory) (policies : List Chooser) (place : ℕ) (was now : Chooser) (result : Result A CommitError) (shelf : Shelved) (err : Taken) → Delivers stages out new_out board new_board result → Serves asked was now result → first_of asked.kind policies ≡ Some place → slice_get policies place ≡ Some was → Carries (asking_outcome stages asked) result (world shelf out err board policies) (world shelf new_out err new_board (set policies place now))
-carries_asking stages asked out new_out board new_board policies place was now (Ok _) shelf err d s found there = record {
-  out = d.all;
+-- so do stages with no turn told
+pub carries_delivered : {A : Type 0} (stages : List Stage) (out new_out : Taken) (board new_board : Memory) (result : Result A CommitError) (shelf : Shelved) (err : Taken) (policies : List Chooser) → Delivers stages out new_out board new_board result → Carries (put_outcome stages) result (world shelf out err board policies) (world shelf new_out err new_board policies)
+carries_delivered stages out new_out board new_board result shelf err policies d =
+    carries_told (untold stages) out new_out board new_board result shelf err policies (tells_untold stages out new_out board new_board result d)
+
+-- what a policy was asked for carries out a command that asks it
+pub carries_asking : {A : Type 0} (telling : Telling) (asked : Asked) (out new_out : Taken) (board new_board : Memory) (policies : List Chooser) (place : ℕ) (was now : Chooser) (result : Result A CommitError) (shelf : Shelved) (err : Taken) → Tells telling out new_out board new_board result → Serves asked was now result → first_of asked.kind policies ≡ Some place → slice_get policies place ≡ Some was → Carries (asking_outcome telling asked) result (world shelf out err board policies) (world shelf new_out err new_board (set policies place now))
+carries_asking telling asked out new_out board new_board policies place was now (Ok _) shelf err d s found there = record {
+  put = d.all;
   err = refl;
-  board = d.at;
   files = refl;
   policies = record {
     changes = record { place = place; was = was; now = now; found = found; there = there; others = refl; kind = s.kind };
     answers = s.answers;
   };
 }
-carries_asking stages asked out new_out board new_board policies place was now (Err WriteFault) shelf err d s found there = record {
-  out = d.cut refl;
+carries_asking telling asked out new_out board new_board policies place was now (Err WriteFault) shelf err d s found there = record {
+  put = d.cut refl;
   files = refl;
   counts = d.failed refl;
   policies = record { place = place; was = was; now = now; found = found; there = there; others = refl; kind = s.kind };
 }
-carries_asking stages asked out new_out board new_board policies place was now (Err CommitMemory) shelf err d s found there = record {
+carries_asking telling asked out new_out board new_board policies place was now (Err CommitMemory) shelf err d s found there = record {
   files = refl;
   out = takes_nothing out.bytes new_out.bytes (d.unwritten refl).0;
   board = (d.unwritten refl).1;
   policies = ap (set policies place) (s.unasked refl) ∙ set_same policies place was there;
 }
+
+-- a store carries out a command that stores
+pub carries_stored : {A : Type 0} (result : Result A CommitError) (name bytes : List ℕ) (before after : Shelved) (out err : Taken) (board : Memory) (policies : List Chooser) → OnOk result (HasStored (Some (name, bytes)) before.files after.files) → (result ≡ Err WriteFault → HasCutStore (Some (name, bytes)) before.files after.files) → (result ≡ Err WriteFault → Rose before.write_faults after.write_faults) → (result ≡ Err CommitMemory → after.files ≡ before.files) → Carries (store_outcome name bytes board) result (world before out err board policies) (world after out err board policies)
+carries_stored (Ok _) name bytes before after out err board policies stored cut failed unchanged = record {
+  put = record { play = []; whole = refl; taken = takes_nothing out.bytes out.bytes refl; at = refl };
+  err = refl;
+  files = stored;
+  policies = refl;
+}
+carries_stored (Err WriteFault) name bytes before after out err board policies stored cut failed unchanged = record {
+  put = record { play = []; cut = inl (refl, inl (cuts_nothing out.bytes, refl)) };
+  files = cut refl;
+  counts = failed refl;
+  policies = refl;
+}
+carries_stored (Err CommitMemory) name bytes before after out err board policies stored cut failed unchanged =
+    record { files = unchanged refl; out = takes_nothing out.bytes out.bytes refl; board = refl; policies = refl }
 
 -- what a call gives with each error
 pub cut_of : (A : Type 0) (outcome : Outcome) (error : CommitError) (before after : World) → error ≡ WriteFault → Carries {A = A} outcome (Err error) before after → CutsShort outcome before after
@@ -359,7 +387,7 @@ cut_reported outcome status shelf new_shelf out new_out err new_err board new_bo
       six,
       record {
         short = record {
-          out = cut.out;
+          put = cut.put;
           files = cut.files;
           counts = counts_beside outcome.stored shelf new_shelf out new_out err new_err board new_board policies left cut.counts;
           policies = cut.policies;
@@ -385,9 +413,8 @@ commits_earlier : (outcome : Outcome) (status : ℕ) (shelf amid : Shelved) (out
 commits_earlier outcome status shelf amid out err board policies after keeps (inl done) = inl (
   done.0,
   record {
-    out = done.1.out;
+    put = done.1.put;
     err = done.1.err;
-    board = done.1.board;
     files = subst (λ files. HasStored outcome.stored files after.shelf.files) keeps.files done.1.files;
     policies = done.1.policies;
   },
@@ -396,7 +423,7 @@ commits_earlier outcome status shelf amid out err board policies after keeps (in
   cut.0,
   record {
     short = record {
-      out = cut.1.short.out;
+      put = cut.1.short.put;
       files = subst (λ files. HasCutStore outcome.stored files after.shelf.files) keeps.files cut.1.short.files;
       counts = counts_earlier outcome.stored shelf amid out err board policies after keeps cut.1.short.counts;
       policies = cut.1.short.policies;

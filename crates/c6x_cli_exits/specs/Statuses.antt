@@ -1,11 +1,12 @@
+-- What a status shows, and what a command that was performed has done (this project's own).
 use Rattle.std.specs.Prelude.{◌≡◌, ◌≢◌, ◌≤◌, ℕ, ◌⊎◌, Bool, true, false, IsTrue, List, [], Option, None, Some, Ok}
 use Rattle.c6x_spec.specs.Files.{Files, Rose}
 use Rattle.c6x_spec.specs.Memory.{Memory}
 use Rattle.c6x_spec.specs.Sinks.{TakesFront}
 use Rattle.c6x_policy.specs.declared.kind.Kind.{Kind}
 use Rattle.c6x_cli_steps.specs.declared.prepare_error.PrepareError.{PrepareError}
-use Rattle.c6x_cli_steps.specs.Exits.{Outcome, Commits, LacksMemory, Leaves, HasReported, IsStopped, Reports, store_outcome}
-use Rattle.c6x_cli_steps.specs.Lines.{error_line, error_status, write_fault_line}
+use Rattle.c6x_cli_exits.specs.Exits.{Commits, HasReported, IsStopped, LacksMemory, Leaves, Outcome, store_outcome}
+use Rattle.c6x_cli_steps.specs.Lines.{Reports, error_line, error_status, write_fault_line}
 use Rattle.c6x_cli_steps.specs.Policies.{asked_kind}
 use Rattle.c6x_cli_steps.specs.Steps.{Steps, Stops, HasCause}
 use Rattle.c6x_cli_steps.specs.Stores.{KeepsWriteFaults}

@@ -1,43 +1,37 @@
+-- How a command ends (this project's own).
 use Rattle.std.specs.Prelude.{◌≡◌, ℕ, ◌⊎◌, List, [], ◌∷◌, Option, None, Some, Result, Ok, Err, Contains}
 use Rattle.c6x_spec.specs.Files.{Rose}
 use Rattle.c6x_spec.specs.Memory.{Memory}
-use Rattle.c6x_spec.specs.Sinks.{Takes, TakesFront}
-use Rattle.c6x_ports.specs.Sink.{Taken}
+use Rattle.c6x_spec.specs.Sinks.{Takes}
 use Rattle.c6x_cli_steps.specs.declared.cause.Cause.{Cause}
 use Rattle.c6x_cli_steps.specs.declared.commit_error.CommitError.{CommitError}
 use Rattle.c6x_cli_steps.specs.declared.commit_error.CommitError.TheVariants.{WriteFault, Memory as NoMemory}
-use Rattle.c6x_cli_steps.specs.Lines.{line_of, status_of, read_fault_line, write_fault_line, memory_line}
+use Rattle.c6x_cli_steps.specs.Lines.{Reports, line_of, memory_line, read_fault_line, status_of, write_fault_line}
 use Rattle.c6x_cli_steps.specs.Policies.{Asked, HasAsked, MayHaveAsked}
-use Rattle.c6x_cli_steps.specs.Stages.{Stage, text_of, board_of, CutsAt}
+use Rattle.c6x_cli_steps.specs.Stages.{Stage, board_of, text_of}
 use Rattle.c6x_cli_steps.specs.Steps.{Steps}
 use Rattle.c6x_cli_steps.specs.Stores.{HasStored, HasCutStore}
 use Rattle.c6x_cli_steps.specs.World.{World}
+use Rattle.c6x_cli_turns.specs.Tellings.{HasPut, IsPutCut, Telling, untold}
 
--- What a command that is carried out does: the stages that it puts, what it stores, and what it asks of the policies.
+-- What a command that is carried out does: what it puts, what it stores, and what it asks of the policies.
 pub record Outcome : Type 0 where
-  pub stages : List Stage
+  pub telling : Telling
   pub stored : Option (List ℕ × List ℕ)
   pub asked : Option Asked
 
 -- A command that writes to the board and the output, and stores nothing.
 abbrev pub put_outcome : List Stage → Outcome
-put_outcome stages = record { stages = stages; stored = None; asked = None }
+put_outcome stages = record { telling = untold stages; stored = None; asked = None }
 
 -- The same of a command that asks a policy.
-abbrev pub asking_outcome : List Stage → Asked → Outcome
-asking_outcome stages asked = record { stages = stages; stored = None; asked = Some asked }
+abbrev pub asking_outcome : Telling → Asked → Outcome
+asking_outcome telling asked = record { telling = telling; stored = None; asked = Some asked }
 
 -- A command that stores puts nothing, and leaves the board as it is.
 abbrev pub store_outcome : List ℕ → List ℕ → Memory → Outcome
 store_outcome name bytes board =
-    record { stages = record { text = []; board = board } ∷ []; stored = Some (name, bytes); asked = None }
-
--- A line was put on the error output: it was taken whole and the status is the one wanted, or a fault cut it and the
--- status is 6.
-abbrev pub Reports : List ℕ → ℕ → ℕ → Taken → Taken → Type 0
-Reports line wanted status before after =
-    ((status ≡ wanted) × Takes line before.bytes after.bytes)
-    ⊎ ((status ≡ 6) × TakesFront line before.bytes after.bytes × Rose before.faults after.faults)
+    record { telling = untold (record { text = []; board = board } ∷ []); stored = Some (name, bytes); asked = None }
 
 -- A command stopped behind these stages, with nothing stored and no policy asked.
 pub record Leaves (stages : List Stage) (before after : World) : Type 0 where
@@ -51,12 +45,11 @@ pub record IsStopped (line : List ℕ) (wanted : ℕ) (stages : List Stage) (sta
   pub leaves : Leaves stages before after
   pub reports : Reports line wanted status before.err after.err
 
--- All was done: the stages on the output, nothing on the error output, the board as at the last stage, the store alone on
--- the shelf, and of the policies none asked but the one.
+-- All was done: all stages on the output and the board as at the last of them, nothing on the error output, the store
+-- alone on the shelf, and of the policies none asked but the one.
 pub record IsDone (outcome : Outcome) (before after : World) : Type 0 where
-  pub out : Takes (text_of outcome.stages) before.out.bytes after.out.bytes
+  pub put : HasPut outcome.telling before.out.bytes after.out.bytes before.board after.board
   pub err : after.err.bytes ≡ before.err.bytes
-  pub board : after.board ≡ board_of outcome.stages before.board
   pub files : HasStored outcome.stored before.shelf.files after.shelf.files
   pub policies : HasAsked outcome.asked before.policies after.policies
 
@@ -67,7 +60,7 @@ CountsFault (Some file) before after = Rose before.shelf.write_faults after.shel
 
 -- A fault cut one of the stages, or the store.
 pub record CutsShort (outcome : Outcome) (before after : World) : Type 0 where
-  pub out : CutsAt outcome.stages before.out.bytes after.out.bytes after.board
+  pub put : IsPutCut outcome.telling before.out.bytes after.out.bytes after.board
   pub files : HasCutStore outcome.stored before.shelf.files after.shelf.files
   pub policies : MayHaveAsked outcome.asked before.policies after.policies
   pub counts : CountsFault outcome.stored before after

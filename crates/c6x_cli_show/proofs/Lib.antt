@@ -1,0 +1,2 @@
+mod TableLines
+mod Delivered
