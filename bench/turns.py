@@ -38,14 +38,16 @@ def plan(processes, quantum, limit):
 
 def nanoseconds(program, folder, processes, quantum):
     """Nanoseconds a cycle."""
-    seconds, lines = {}, {}
+    seconds = {}
     limits = (1, CYCLES // processes)
     for limit in limits:
         name = f"{processes}-{quantum}-{limit}.plan"
         write(folder, name, plan(processes, quantum, limit).encode())
-        seconds[limit], lines[limit] = cycles.spent([program, "run", name], folder)
-        if b"limit cycles %d" % limit not in lines[limit]:
-            sys.exit(f"bench/turns.py: not that answer: {lines[limit]}")
+        command = [program, "run", name]
+        line = cycles.answer(command, folder)
+        if b"limit cycles %d" % limit not in line:
+            sys.exit(f"bench/turns.py: not that answer: {line}")
+        seconds[limit] = cycles.spent(command, folder)
     done = (limits[1] - limits[0]) * processes
     return (seconds[limits[1]] - seconds[limits[0]]) / done * 1e9
 
