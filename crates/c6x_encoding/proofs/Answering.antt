@@ -1,8 +1,7 @@
 -- What the answers for the word of an instruction come from.
 
-use Rattle.std.proofs.Common.{◌≡◌, ℕ, ◌↔◌, nat_eq, Bool, true, false, IsTrue, List, [], ◌∷◌, Option, Some, None, refl, sym, ◌∙◌, ap}
-use Rattle.std.specs.Option.{option_map, option_and_then, is_some, option_eq}
-use Rattle.std.proofs.lemmas.Bool.{eqb-true, eq-eqb, both_ways}
+use Rattle.std.proofs.Common.{◌≡◌, ℕ, ◌↔◌, Bool, true, false, IsTrue, List, [], ◌∷◌, Option, Some, None, refl, sym, ◌∙◌, ap}
+use Rattle.std.specs.Option.{option_map, option_and_then, is_some}
 use Rattle.c6x_base.specs.declared.side.Side.{Side}
 use Rattle.c6x_instr.specs.declared.arith.Arith.{Arith}
 use Rattle.c6x_instr.specs.declared.first.First.{First}
@@ -14,11 +13,9 @@ use Rattle.c6x_instr.specs.declared.unit_kind.UnitKind.TheVariants.{L, S, D, M}
 use Rattle.c6x_instr.specs.Spelling.{Part, Condition, Dst, Src2, Src1, Crossed, Sided, Chained, Slot, two_slots, form_of, part_of, condition_bits, first_bits, is_constant, bit_of, side_bit, Spells, IsValid}
 use Rattle.c6x_encoding.specs.declared.operands.Operands.{Operands}
 use Rattle.c6x_encoding.specs.Encoded.{two_code, fields_of, joined_fields, two_fields, layout_of, is_allowed, encoded}
-use Rattle.c6x_instr.specs.declared.form.Form.{Form}
 use Rattle.c6x_instr.specs.Decoded.{made, decoded}
 use Rattle.c6x_encoding.specs.Groups.{tree, form_by}
 use Rattle.c6x_encoding.proofs.Trees.{form_by-tree}
-use Rattle.c6x_encoding.proofs.Back.{made-spelled}
 use Rattle.c6x_encoding.proofs.Facts.{spells-encoded, encoded-spelled, spells-decoded, decoded-spelled}
 
 -- An instruction is valid exactly where it has a word.
@@ -74,29 +71,3 @@ none_decoded word e = go (decoded word) refl
     go : (o : Option Instr) → decoded word ≡ o → None ≡ decoded word
     go None is = sym is
     go (Some i) is = absurd (let s : Some (form_of i.op) ≡ None = sym (form_by-tree i word (spells-decoded i word is)) ∙ e in cc)
-
--- A word whose fields spell it again is the word of the instruction that they make.
-pub made_decoded : (form : Form) (word : ℕ) → encoded (made form word) ≡ Some word → Some (made form word) ≡ decoded word
-made_decoded form word e = sym (decoded-spelled (made form word) word (spells-encoded (made form word) word e))
-
--- A word whose fields do not spell it spells nothing.
-pub other_decoded : (form : Form) (word : ℕ) → form_by tree word ≡ Some form → (encoded (made form word) ≡ Some word → ⊥) → None ≡ decoded word
-other_decoded form word e other = go (decoded word) refl
-  where
-    go : (o : Option Instr) → decoded word ≡ o → None ≡ decoded word
-    go None is = sym is
-    go (Some i) is =
-        let s = spells-decoded i word is in
-        let f : Some (form_of i.op) ≡ Some form = sym (form_by-tree i word s) ∙ e in
-        let g : form_of i.op ≡ form = cc in
-        let m : made form word ≡ i = ap (λ (f : Form). made f word) (sym g) ∙ made-spelled i word s in
-        absurd (other (ap encoded m ∙ encoded-spelled i word s))
-
--- The test of an option against a number.
-pub tested_true : (o : Option ℕ) (n : ℕ) (b : Bool) → b ≡ option_eq nat_eq o (Some n) → b ≡ true → o ≡ Some n
-tested_true None n b is t = let e : true ≡ false = sym t ∙ is in cc
-tested_true (Some m) n b is t = ap Some (eqb-true m n (sym is ∙ t))
-
-pub tested_false : (o : Option ℕ) (n : ℕ) (b : Bool) → b ≡ option_eq nat_eq o (Some n) → b ≡ false → o ≡ Some n → ⊥
-tested_false o n b is f e =
-    both_ways b f (is ∙ ap (λ (o : Option ℕ). option_eq nat_eq o (Some n)) e ∙ eq-eqb n n refl)

@@ -114,7 +114,7 @@ spells-encoded i word is = elim (cases_Bool (is_allowed i.op)) [
 pub same_word : (i : Instr) (v w : ℕ) → Spells i v → Spells i w → v ≡ w
 same_word i v w s t = let e : Some v ≡ Some w = sym (encoded-spelled i v s) ∙ encoded-spelled i w t in cc
 
-form_of-op_made : (form : Form) (word : ℕ) → form_of (op_made form word) ≡ form
+pub form_of-op_made : (form : Form) (word : ℕ) → form_of (op_made form word) ≡ form
 form_of-op_made (TwoForm unit arith false) word = refl
 form_of-op_made (TwoForm unit arith true) word = refl
 form_of-op_made (MoveForm kind) word = refl

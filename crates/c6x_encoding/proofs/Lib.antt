@@ -6,3 +6,5 @@ pub mod Facts
 pub mod Joining
 pub mod Answering
 pub mod Bounds
+pub mod Covered
+pub mod Led

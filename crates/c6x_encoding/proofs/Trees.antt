@@ -72,7 +72,7 @@ refused part held value may never =
     ne_eqb held value
     (λ e. both_ways (is_part part value) (not-true _ never) (subst (λ v. IsTrue (is_part part v)) e may))
 
-answered : (slots : List Slot) (parts : Part → ℕ) (word low more value : ℕ) (b : Bool) → AreBits slots parts word → answer slots low more value ≡ Some b → nat_eq (bits_of word low more) value ≡ b
+pub answered : (slots : List Slot) (parts : Part → ℕ) (word low more value : ℕ) (b : Bool) → AreBits slots parts word → answer slots low more value ≡ Some b → nat_eq (bits_of word low more) value ≡ b
 answered [] parts word low more value b are says = cc
 answered (Fixed count fixed ∷ slots) parts word low more value b are says =
     elim (cases_Bool (is_inside (width slots) count low more)) [

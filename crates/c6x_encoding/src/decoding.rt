@@ -5,22 +5,21 @@ ghost use Rattle.c6x_instr.specs.Spelling.{IsValid, Spells};
 ghost use Rattle.c6x_instr.specs.Decoded.{access_from, condition_from, condition_made, cross_at, decoded, first_from, is_set, made, op_made, side_at};
 
 use crate::groups::form;
-use crate::words::word_of;
+use crate::rests::is_of_row;
 use c6x_base::{Side, bits};
 use c6x_instr::{Access, Cond, CondReg, First, Form, Instr, Op, UnitKind};
 
 /// The instruction that the word spells, and None exactly where no row of the table spells it
 /// (SPRU732, "Instruction Descriptions" and the opcode maps). The work is the same for every word:
-/// its form, its fields, and the word that they spell.
+/// its form, what is left of the form's row, and its fields.
 pub fn decode(word: u32) -> Option<Instr>
     ensures spelled { (i : Instr) → (result ≡ Some i) ↔ Spells i word }
     ensures value { result ≡ decoded word }
     ensures valid { IfSome result IsValid }
 {
     let form = form(word)?;
-    let instr = instruction(form, word);
-    if word_of(&instr) == Some(word) {
-        Some(instr)
+    if is_of_row(form, word) {
+        Some(instruction(form, word))
     } else {
         None
     }

@@ -11,6 +11,7 @@ mod groups;
 mod head;
 mod laws;
 mod operands;
+mod rests;
 mod words;
 
 pub use decoding::decode;

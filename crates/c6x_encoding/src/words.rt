@@ -310,7 +310,7 @@ fn nop_word(head: Head, cycles: u8) -> Option<u32>
 }
 
 /// Whether a short load or store has this mode.
-fn is_mode(mode: u8) -> bool
+pub fn is_mode(mode: u8) -> bool
     ensures { result ≡ is_part Mode mode }
 {
     mode < 2 || (4 <= mode && mode < 6) || (8 <= mode && mode < 16)
