@@ -11,5 +11,7 @@ pub mod Meetings
 pub mod Firsts
 pub mod Loads
 pub mod Executing
+pub mod Plain
+pub mod Knowing
 pub mod Steps
 pub mod Standing

@@ -1,10 +1,10 @@
 -- What the relation says of a process between cycles.
-use Rattle.std.proofs.Common.{◌≡◌, ℕ, zero, suc, ◌+◌, ◌-◌, ◌≤◌, List, refl, sym, ◌∙◌, ap, subst, arith, Option, Some, None, add-zero, add-suc, true, min, is_some}
+use Rattle.std.proofs.Common.{◌≡◌, ℕ, ◌+◌, ◌-◌, ◌≤◌, List, sym, ◌∙◌, ap, subst, arith, Option, Some, None, true, min, is_some}
 use Rattle.c6x_spec.specs.Memory.{Memory, byte_in}
 use Rattle.c6x_access.specs.declared.area.Area.{Area}
 use Rattle.c6x_access.specs.Rights.{is_own}
 use Rattle.c6x_machine.specs.History.{Effect}
-use Rattle.c6x_machine.specs.Machine.{Life, Outcome, Goes, Stops, after, outcome_of, next_by, next_of, go_on_by, going_by, alone_by, alone, life_by, life}
+use Rattle.c6x_machine.specs.Machine.{Life, outcome_of, next_of, going_by, alone_by, alone, life_by, life}
 use Rattle.c6x_machine.specs.Origin.{Origin}
 use Rattle.c6x_machine.proofs.Going.{alone_more, alone_stays, next_count, count_grows}
 use Rattle.c6x_exec.specs.Process.{StandsFor, HasRun, ended_of, areas_of}

@@ -1,5 +1,5 @@
 -- What a cycle comes to, from the words to the address.
-use Rattle.std.proofs.Common.{Bool, Err, List, None, Ok, Option, Result, Some, [], ap, arith, false, length, refl, subst, suc, sym, true, zero, ℕ, ◌%◌, ◌*◌, ◌+◌, ◌<◌, ◌∙◌, ◌∷◌, ◌≡◌}
+use Rattle.std.proofs.Common.{Bool, Err, List, Ok, Option, Result, Some, ap, arith, false, length, refl, subst, suc, sym, true, zero, ℕ, ◌%◌, ◌*◌, ◌+◌, ◌<◌, ◌∙◌, ◌≡◌}
 use Rattle.std.specs.Prelude.{◌==◌, if◌then◌else◌, nat_le, is_some, slice_index}
 use Rattle.std.specs.List.{All, slice_get}
 use Rattle.std.proofs.lemmas.Bool.Decides.{nat_tests}
@@ -11,9 +11,6 @@ use Rattle.c6x_access.proofs.Bytes.{may_own}
 use Rattle.c6x_instr.specs.declared.instr.Instr.{Instr}
 use Rattle.c6x_instr.specs.declared.effect.Effects.{Effects}
 use Rattle.c6x_instr.specs.Spelling.{IsValid}
-use Rattle.c6x_instr.specs.Decoded.{decoded}
-use Rattle.c6x_packet.specs.Packets.{split_of, tested}
-use Rattle.c6x_packet.specs.declared.error.PacketError.TheVariants.{BadWord}
 use Rattle.c6x_exec.specs.Fetched.{number_in, words_in}
 use Rattle.c6x_machine.specs.History.{Effect, issue_at, target_at, output_of, register_at, registers_at, byte_at, number_of, number_at}
 use Rattle.c6x_machine.specs.Machine.{Outcome, Goes, Stops, executed, instructed, fetched, packet_of, with_put, put_of, issued, issued_if, outcome_of}
@@ -109,12 +106,3 @@ register_read s h n place registers within is = ap (λ (all : List ℕ). slice_i
 pub address_found : (s : Origin) (h : List Effect) (n : ℕ) (found : Option ℕ) → found ≡ issue_at s.entry h n → outcome_of s h n ≡ issued_if s h n found
 unfolding outcome_of
 address_found s h n found is = ap (λ (one : Option ℕ). issued_if s h n one) (sym is)
-
--- a word by itself breaks no rule of a packet
-pub split_found : (word : ℕ) (instr : Instr) → decoded word ≡ Some instr → split_of (word ∷ []) ≡ Ok (instr ∷ [])
-unfolding split_of tested
-split_found word instr is = rw is refl
-
-pub split_none : (word : ℕ) → decoded word ≡ None → split_of (word ∷ []) ≡ Err (BadWord 0)
-unfolding split_of
-split_none word is = rw is refl

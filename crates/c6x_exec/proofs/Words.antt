@@ -5,7 +5,6 @@ use Rattle.std.proofs.lemmas.Bool.{cases_eq}
 use Rattle.std.proofs.lemmas.Bool.Decides.{nat_tests}
 use Rattle.std.proofs.lemmas.List.{take_more_set, places}
 use Rattle.std.proofs.lemmas.Grind.{common_steps}
-use Rattle.c6x_packet.specs.Packets.{IsChain}
 use Rattle.c6x_exec.specs.Fetched.{after_front}
 use Rattle.c6x_access.specs.declared.area.Area.{Area}
 use Rattle.c6x_access.specs.declared.right.Right.{Right}

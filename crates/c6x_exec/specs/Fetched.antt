@@ -1,5 +1,5 @@
 -- The words that the code fetches from the board.
-use Rattle.std.specs.Prelude.{◌≡◌, ℕ, ◌+◌, ◌-◌, ◌%◌, ◌<◌, ◌≤◌, List, ◌++◌, length, slice_index, Result, Ok, Err, false}
+use Rattle.std.specs.Prelude.{ℕ, List, ◌++◌, Result, Ok, Err, false}
 use Rattle.c6x_spec.specs.Memory.{Memory, byte_in}
 use Rattle.c6x_access.specs.declared.area.Area.{Area}
 use Rattle.c6x_machine.specs.History.{number_of}

@@ -1,12 +1,12 @@
 -- What a row asks of the board and of the areas.
-use Rattle.std.specs.Prelude.{◌≡◌, ℕ, ◌<◌, ◌≤◌, List, length, Option, None, Some, true, false}
+use Rattle.std.specs.Prelude.{◌≡◌, ℕ, ◌<◌, ◌≤◌, List, length, Option, None, Some, false}
 use Rattle.std.specs.List.{All}
 use Rattle.c6x_spec.specs.Memory.{Memory, IsOnMemory, byte_in}
 use Rattle.c6x_instr.specs.declared.effect.Effects.{Effects}
 use Rattle.c6x_instr.specs.declared.mem_op.MemOp.{MemOp}
 use Rattle.c6x_access.specs.declared.area.Area.{Area}
 use Rattle.c6x_access.specs.declared.right.Right.TheVariants.{Write}
-use Rattle.c6x_access.specs.Rights.{is_own, allowed}
+use Rattle.c6x_access.specs.Rights.{allowed}
 use Rattle.c6x_machine.specs.declared.destination.Destination.{Destination}
 use Rattle.c6x_machine.specs.Packet.{bad_read_of, bad_write_of}
 

@@ -4,4 +4,5 @@ pub mod Stands
 pub mod Sound
 pub mod Fits
 pub mod Fetched
+pub mod Known
 pub mod Process

@@ -11,6 +11,7 @@ mod faults;
 mod fetch;
 mod gate;
 mod initial;
+mod known;
 mod limits;
 mod memory;
 mod note;

@@ -2,6 +2,7 @@ ghost use Rattle.c6x_exec.specs.Sound.{IsSound, IsWithin};
 
 use crate::context::Context;
 use crate::initial::initial_context;
+use crate::known::KnownPackets;
 use crate::limits::MOST_OUTPUT;
 use crate::step::advance;
 use c6x_access::Map;
@@ -16,6 +17,7 @@ use std::alloc::{AllocError, Global};
 pub struct Process {
     map: Map,
     context: Context,
+    packets: KnownPackets,
     ghost sound: { IsSound context },
     ghost within: { IsWithin context },
 }
@@ -45,7 +47,11 @@ impl Process {
     {
         let output = Vec::with_capacity(alloc, MOST_OUTPUT)?;
         let context = initial_context(&start, output);
-        Ok(Process { map, context })
+        Ok(Process {
+            map,
+            context,
+            packets: KnownPackets::new(),
+        })
     }
 
     /// How the process ended, if it has.
@@ -94,6 +100,6 @@ impl Process {
         ensures frame { IsFramed (areas_of self.old) board.old board.new }
     {
         let mut lane = board.lend(&self.map);
-        advance(&mut self.context, &mut lane);
+        advance(&mut self.context, &mut lane, &mut self.packets);
     }
 }

@@ -12,15 +12,16 @@ ghost use Rattle.c6x_exec.specs.Stands.{Tracks, Comes, Keeps};
 use crate::address::issue_address;
 use crate::context::Context;
 use crate::cycle_end::end_cycle;
-use crate::execute::execute_rows;
+use crate::execute::{execute_row, execute_rows};
 use crate::fetch::fetch;
 use crate::gate::{EXIT_GATE, PUT_GATE};
+use crate::known::KnownPackets;
 use crate::put::put;
 use crate::rows::rows_at;
 use c6x_access::Map;
 use c6x_base::Side;
 use c6x_board::{Board, Lane};
-use c6x_isa::{Instr, decode, effects};
+use c6x_isa::{Instr, effects};
 use c6x_machine::{End, FaultKind};
 use c6x_packet::{PacketError, split};
 
@@ -58,30 +59,57 @@ fn execute_packet(
     execute_rows(p, map, board, rows.as_slice(), at, next)
 }
 
-/// Does a word that is a packet by itself.
-fn execute_word(p: &mut Context, map: &Map, board: &mut Board, word: u32, at: u32) -> Option<End>
-    requires sound { IsSound p.old }
-    requires on_board { LieOn board.old map.now }
-    ensures sound { IsSound p.new }
-    ensures stays { Stays p.old p.new }
-    ensures comes { (s : Origin) (h : List Effect) (n : ℕ) → s.areas ≡ map.now → Tracks p.old board.old s h n n → Comes result (instructed s h n at (split_of (word ∷ []))) p.new board.new s h n }
-    ensures frame { IsFramed map.now board.old board.new }
-{
-    match decode(word) {
-        Some(instr) => {
-            let next = at.wrapping_add(4);
-            let row = effects(&instr, at, next, &p.registers);
-            execute_rows(p, map, board, &[row], at, next)
-        }
-        None => Some(End::Fault(FaultKind::BadWord, at)),
-    }
-}
-
-/// Does the words of a packet.
-fn execute_words(
+/// Does an instruction that is a packet by itself.
+fn execute_instr(
     p: &mut Context,
     map: &Map,
     board: &mut Board,
+    instr: &Instr,
+    at: u32,
+) -> Option<End>
+    requires sound { IsSound p.old }
+    requires valid { IsValid instr.now }
+    requires on_board { LieOn board.old map.now }
+    ensures sound { IsSound p.new }
+    ensures stays { Stays p.old p.new }
+    ensures comes { (s : Origin) (h : List Effect) (n : ℕ) → s.areas ≡ map.now → Tracks p.old board.old s h n n → Comes result (instructed s h n at (Ok (instr.now ∷ []))) p.new board.new s h n }
+    ensures frame { IsFramed map.now board.old board.new }
+{
+    let next = at.wrapping_add(4);
+    let row = effects(instr, at, next, &p.registers);
+    execute_row(p, map, board, row, at, next)
+}
+
+/// Does the instructions of a packet, for which one by itself has a shorter way.
+fn execute_instrs(
+    p: &mut Context,
+    map: &Map,
+    board: &mut Board,
+    instrs: &[Instr],
+    at: u32,
+) -> Option<End>
+    requires sound { IsSound p.old }
+    requires few { length instrs.now ≤ 8 }
+    requires valid { All IsValid instrs.now }
+    requires on_board { LieOn board.old map.now }
+    ensures sound { IsSound p.new }
+    ensures stays { Stays p.old p.new }
+    ensures comes { (s : Origin) (h : List Effect) (n : ℕ) → s.areas ≡ map.now → Tracks p.old board.old s h n n → Comes result (instructed s h n at (Ok instrs.now)) p.new board.new s h n }
+    ensures frame { IsFramed map.now board.old board.new }
+{
+    if instrs.len() == 1 {
+        execute_instr(p, map, board, &instrs[0], at)
+    } else {
+        execute_packet(p, map, board, instrs, at)
+    }
+}
+
+/// Does words that are not known yet, and keeps the packet that they spell.
+fn execute_new(
+    p: &mut Context,
+    map: &Map,
+    board: &mut Board,
+    known: &mut KnownPackets,
     words: &[u32],
     at: u32,
 ) -> Option<End>
@@ -93,17 +121,47 @@ fn execute_words(
     ensures comes { (s : Origin) (h : List Effect) (n : ℕ) → s.areas ≡ map.now → Tracks p.old board.old s h n n → Comes result (instructed s h n at (split_of words.now)) p.new board.new s h n }
     ensures frame { IsFramed map.now board.old board.new }
 {
-    if words.len() == 1 {
-        return execute_word(p, map, board, words[0], at);
-    }
     match split(words) {
-        Ok(packet) => execute_packet(p, map, board, packet.as_slice(), at),
+        Ok(packet) => {
+            let instrs = packet.as_slice();
+            known.add(at, words, instrs);
+            execute_instrs(p, map, board, instrs, at)
+        }
         Err(error) => Some(fault_of_packet(at, error)),
     }
 }
 
+/// Does the words of a packet.
+fn execute_words(
+    p: &mut Context,
+    map: &Map,
+    board: &mut Board,
+    known: &mut KnownPackets,
+    words: &[u32],
+    at: u32,
+) -> Option<End>
+    requires sound { IsSound p.old }
+    requires chain { IsChain words.now }
+    requires on_board { LieOn board.old map.now }
+    ensures sound { IsSound p.new }
+    ensures stays { Stays p.old p.new }
+    ensures comes { (s : Origin) (h : List Effect) (n : ℕ) → s.areas ≡ map.now → Tracks p.old board.old s h n n → Comes result (instructed s h n at (split_of words.now)) p.new board.new s h n }
+    ensures frame { IsFramed map.now board.old board.new }
+{
+    match known.find(at, words) {
+        Some(instrs) => execute_instrs(p, map, board, instrs, at),
+        None => execute_new(p, map, board, known, words, at),
+    }
+}
+
 /// Does the packet at an address.
-fn packet(p: &mut Context, map: &Map, board: &mut Board, at: u32) -> Option<End>
+fn packet(
+    p: &mut Context,
+    map: &Map,
+    board: &mut Board,
+    known: &mut KnownPackets,
+    at: u32,
+) -> Option<End>
     requires sound { IsSound p.old }
     requires on_board { LieOn board.old map.now }
     ensures sound { IsSound p.new }
@@ -112,13 +170,19 @@ fn packet(p: &mut Context, map: &Map, board: &mut Board, at: u32) -> Option<End>
     ensures frame { IsFramed map.now board.old board.new }
 {
     match fetch(map, board, at) {
-        Ok(chain) => execute_words(p, map, board, chain.as_slice(), at),
+        Ok(chain) => execute_words(p, map, board, known, chain.as_slice(), at),
         Err(bad) => Some(End::Fault(FaultKind::Fetch, bad)),
     }
 }
 
 /// Does the packet or the gate at an address.
-fn issue(p: &mut Context, map: &Map, board: &mut Board, at: u32) -> Option<End>
+fn issue(
+    p: &mut Context,
+    map: &Map,
+    board: &mut Board,
+    known: &mut KnownPackets,
+    at: u32,
+) -> Option<End>
     requires sound { IsSound p.old }
     requires on_board { LieOn board.old map.now }
     ensures sound { IsSound p.new }
@@ -131,12 +195,12 @@ fn issue(p: &mut Context, map: &Map, board: &mut Board, at: u32) -> Option<End>
     } else if at == PUT_GATE {
         put(p)
     } else {
-        packet(p, map, board, at)
+        packet(p, map, board, known, at)
     }
 }
 
 /// Does what is issued at the current cycle, if anything is.
-fn step(p: &mut Context, map: &Map, board: &mut Board) -> Option<End>
+fn step(p: &mut Context, map: &Map, board: &mut Board, known: &mut KnownPackets) -> Option<End>
     requires sound { IsSound p.old }
     requires on_board { LieOn board.old map.now }
     ensures sound { IsSound p.new }
@@ -145,13 +209,13 @@ fn step(p: &mut Context, map: &Map, board: &mut Board) -> Option<End>
     ensures frame { IsFramed map.now board.old board.new }
 {
     match issue_address(p) {
-        Some(at) => issue(p, map, board, at),
+        Some(at) => issue(p, map, board, known, at),
         None => None,
     }
 }
 
 /// Does one cycle on a lane of the areas.
-pub(crate) fn advance(p: &mut Context, lane: &mut Lane<'_>)
+pub(crate) fn advance(p: &mut Context, lane: &mut Lane<'_>, known: &mut KnownPackets)
     requires sound { IsSound p.old }
     requires more { p.old.cycles < p.old.limit }
     requires on_board { LieOn lane.old.board.now lane.old.map.now }
@@ -164,6 +228,6 @@ pub(crate) fn advance(p: &mut Context, lane: &mut Lane<'_>)
     ensures keeps { (s : Origin) (l : Life) → s.areas ≡ lane.old.map.now → Keeps p.old lane.old.board.now s l → Keeps p.new lane.new.board.now s (next_of s l) }
     ensures frame { IsFramed lane.old.map.now lane.old.board.now lane.new.board.now }
 {
-    let end = step(p, lane.map, lane.board);
+    let end = step(p, lane.map, lane.board, known);
     end_cycle(p, end);
 }
