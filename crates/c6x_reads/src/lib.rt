@@ -11,6 +11,8 @@ pub use images::plain_executable;
 #[cfg(test)]
 mod files;
 #[cfg(test)]
+mod generated;
+#[cfg(test)]
 mod owners;
 #[cfg(test)]
 mod plans;

@@ -1,0 +1,5 @@
+pub mod Lists
+pub mod Sources
+pub mod Links
+pub mod Plans
+pub mod Generated
