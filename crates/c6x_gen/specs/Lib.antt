@@ -3,3 +3,4 @@ pub mod Sources
 pub mod Links
 pub mod Plans
 pub mod Generated
+pub mod Limits
