@@ -1,10 +1,12 @@
 -- What the relation says of a process between cycles.
-use Rattle.std.proofs.Common.{◌≡◌, ℕ, ◌+◌, ◌-◌, ◌≤◌, List, sym, ◌∙◌, ap, subst, arith, Option, Some, None, true, min, is_some}
+use Rattle.std.proofs.Common.{◌≡◌, ℕ, ◌+◌, ◌-◌, ◌≤◌, List, refl, sym, ◌∙◌, ap, subst, arith, Option, Some, None, true, false, min, is_some}
+use Rattle.std.specs.Prelude.{◌==◌}
+use Rattle.std.proofs.lemmas.Bool.Decides.{nat_tests}
 use Rattle.c6x_spec.specs.Memory.{Memory, byte_in}
 use Rattle.c6x_access.specs.declared.area.Area.{Area}
 use Rattle.c6x_access.specs.Rights.{is_own}
-use Rattle.c6x_machine.specs.History.{Effect}
-use Rattle.c6x_machine.specs.Machine.{Life, outcome_of, next_of, going_by, alone_by, alone, life_by, life}
+use Rattle.c6x_machine.specs.History.{Effect, issue_at}
+use Rattle.c6x_machine.specs.Machine.{Life, limit_end, outcome_of, next_by, next_of, going_by, alone_by, alone, life_by, life}
 use Rattle.c6x_machine.specs.Origin.{Origin}
 use Rattle.c6x_machine.proofs.Going.{alone_more, alone_stays, next_count, count_grows}
 use Rattle.c6x_exec.specs.Process.{StandsFor, HasRun, ended_of, areas_of}
@@ -13,6 +15,8 @@ use Rattle.c6x_exec.specs.Stands.{Tracks, Keeps}
 use Rattle.c6x_machine.specs.declared.end.End.{End}
 use Rattle.c6x_exec.specs.declared.process.Process.{Process}
 use Rattle.c6x_exec.specs.declared.context.Context.{Context}
+use Rattle.c6x_exec.proofs.Amid.{amid}
+use Rattle.c6x_exec.proofs.Steps.{address_found}
 
 -- the relation at the count itself
 pub stands_tracks : (p : Process) (b : Memory) (s : Origin) (n : ℕ) → StandsFor p b s n → Tracks p.context b s (alone s n).history n n
@@ -30,6 +34,18 @@ stands_more p q b c s n k running areas kept =
       areas = areas ∙ k.areas;
       keeps = subst P (sym more) (kept (sym k.areas) k.keeps);
     }
+
+pub stands_next : (p q : Process) (b : Memory) (s : Origin) (n done : ℕ) → StandsFor p b s (n + done) → ended_of p ≡ None → areas_of q ≡ areas_of p → (Keeps p.context b s (alone s (n + done)) → Keeps q.context b s (next_of s (alone s (n + done)))) → StandsFor q b s (n + (done + 1))
+stands_next p q b s n done k running areas kept =
+    let P : ℕ → Type 0 = λ m. StandsFor q b s m in
+    let more : n + done + 1 ≡ n + (done + 1) = omega arith in
+    subst P more (stands_more p q b b s (n + done) k running areas (λ same. kept))
+
+-- what a process stands for is in its areas and in what it keeps of its run
+pub stands_same : (p q : Process) (b : Memory) (s : Origin) (n : ℕ) → areas_of q ≡ areas_of p → q.context ≡ p.context → StandsFor p b s n → StandsFor q b s n
+stands_same p q b s n areas same k =
+    let P : Context → Type 0 = λ one. Keeps one b s (alone s n) in
+    record { began = k.began; lives = k.lives; areas = areas ∙ k.areas; keeps = subst P (sym same) k.keeps }
 
 -- a process stands for the same where the board has its bytes as before
 retold : (p : Context) (b c : Memory) (s : Origin) (h : List Effect) (n m : ℕ) → ((x : ℕ) → is_own s.areas x ≡ true → byte_in c x ≡ byte_in b x) → Tracks p b s h n m → Tracks p c s h n m
@@ -109,3 +125,18 @@ pub count_full : (p : Process) (b : Memory) (s : Origin) (n done steps : ℕ) �
 count_full p b s n done steps k sound is =
     let lives : n + done ≤ life s = stands_lives p b s (n + done) k sound in
     omega arith
+
+-- before its limit a process goes on without an end
+open_limit : (limit count : ℕ) → (count ≡ limit → ⊥) → limit_end limit count ≡ None
+unfolding limit_end
+open_limit limit count apart = let test : (count == limit) ≡ false = grind (arith, nat_tests) in rw test refl
+
+-- a cycle at which nothing is issued, before the last one
+pub waited : (p q : Context) (b : Memory) (s : Origin) (l : Life) → p.ended ≡ None → q.ended ≡ p.ended → (p.cycles + 1 ≡ p.limit → ⊥) → None ≡ issue_at s.entry l.history l.count → (Tracks p b s l.history l.count (l.count + 1) → Tracks q b s l.history (l.count + 1) (l.count + 1)) → Keeps p b s l → Keeps q b s (next_of s l)
+unfolding next_by
+waited p q b s l running ended apart none ticked k =
+    let count : p.cycles ≡ l.count = k.tracks.cycles in
+    let limit : p.limit ≡ s.limit = k.tracks.limit in
+    let still : limit_end s.limit (l.count + 1) ≡ None = open_limit s.limit (l.count + 1) (λ is. apart (omega arith)) in
+    rw (address_found s l.history l.count None none)
+    (record { ended = ended ∙ running ∙ sym still; tracks = ticked (amid p b s l.history l.count k.tracks) })

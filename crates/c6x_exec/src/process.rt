@@ -4,7 +4,7 @@ use crate::context::Context;
 use crate::initial::initial_context;
 use crate::known::KnownPackets;
 use crate::limits::MOST_OUTPUT;
-use crate::step::advance;
+use crate::step::{advance, wait};
 use c6x_access::Map;
 use c6x_base::Side;
 use c6x_board::Board;
@@ -86,6 +86,27 @@ impl Process {
         ensures told { (b : Memory) (s : Origin) (n : ℕ) → StandsFor self.now b s n → result ≡ register_at s.registers (alone s n).history n (place_of side number) }
     {
         self.context.registers.get(side, number)
+    }
+
+    /// Does cycles at which nothing is issued, this many at most, and tells how many. It stops before one at which something
+    /// is issued and before the last one.
+    pub(crate) fn wait_out(&mut self, most: u32) -> u32
+        requires running { ended_of self.old ≡ None }
+        ensures few { result ≤ most }
+        ensures stands { (b : Memory) (s : Origin) (n : ℕ) → StandsFor self.old b s n → StandsFor self.new b s (n + result) }
+        ensures running { ended_of self.new ≡ None }
+        ensures areas { areas_of self.new ≡ areas_of self.old }
+        ensures cycles { cycles_of self.new ≡ cycles_of self.old + result }
+        ensures limit { limit_of self.new ≡ limit_of self.old }
+    {
+        let mut done = 0;
+        while done < most {
+            if !wait(&mut self.context) {
+                return done;
+            }
+            done += 1;
+        }
+        done
     }
 
     /// Does one cycle.

@@ -97,6 +97,7 @@ pub(crate) fn tick(p: &mut Context)
     ensures sound { IsSound p.new }
     ensures cycles { p.new.cycles ≡ p.old.cycles + 1 }
     ensures limit { p.new.limit ≡ p.old.limit }
+    ensures ended { p.new.ended ≡ p.old.ended }
     ensures tracks { (b : Memory) (s : Origin) (h : List Effect) (n : ℕ) → Tracks p.old b s h n (n + 1) → Tracks p.new b s h (n + 1) (n + 1) }
 {
     let now = p.cycles + 1;

@@ -33,6 +33,27 @@ pub fn cycle(process: &mut Process, board: &mut Board) -> Option<End>
     process.ended()
 }
 
+/// Does at least one cycle of a process on the board, and this many at most: one, or some through which it waits.
+fn run_some(process: &mut Process, board: &mut Board, most: u32) -> u32
+    requires running { ended_of process.old ≡ None }
+    requires on_board { LieOn board.old (areas_of process.old) }
+    requires some { 1 ≤ most }
+    ensures stands { (s : Origin) (n : ℕ) → StandsFor process.old board.old s n → StandsFor process.new board.new s (n + result) }
+    ensures some { 1 ≤ result }
+    ensures few { result ≤ most }
+    ensures areas { areas_of process.new ≡ areas_of process.old }
+    ensures cycles { cycles_of process.new ≡ cycles_of process.old + result }
+    ensures limit { limit_of process.new ≡ limit_of process.old }
+    ensures frame { IsFramed (areas_of process.old) board.old board.new }
+{
+    let waited = process.wait_out(most);
+    if waited == most {
+        return waited;
+    }
+    process.advance(board);
+    waited + 1
+}
+
 /// Does cycles of a process on the board until this many are done or it has ended. It takes no memory.
 pub fn run_cycles(process: &mut Process, board: &mut Board, steps: u32) -> Ran
     requires running { ended_of process.old ≡ None }
@@ -49,8 +70,7 @@ pub fn run_cycles(process: &mut Process, board: &mut Board, steps: u32) -> Ran
 {
     let mut done = 0;
     'cycles: loop {
-        process.advance(board);
-        done += 1;
+        done += run_some(process, board, steps - done);
         let end = process.ended();
         if end.is_some() || done == steps {
             return Ran { cycles: done, end };

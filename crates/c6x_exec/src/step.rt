@@ -1,4 +1,5 @@
-ghost use Rattle.std.specs.Prelude.{◌≡◌, ℕ, ◌+◌, ◌<◌, ◌≤◌, List, length, All, Ok, ◌∷◌, []};
+ghost use Rattle.std.specs.Prelude.{◌≡◌, ℕ, ◌+◌, ◌<◌, ◌≤◌, List, length, All, Ok, ◌∷◌, [], None, true, false};
+ghost use Rattle.c6x_spec.specs.Memory.{Memory};
 ghost use Rattle.c6x_instr.specs.Spelling.{IsValid};
 ghost use Rattle.c6x_packet.specs.Packets.{IsChain, split_of};
 ghost use Rattle.c6x_board.specs.Lane.{LieOn};
@@ -17,6 +18,7 @@ use crate::fetch::fetch;
 use crate::gate::{EXIT_GATE, PUT_GATE};
 use crate::known::KnownPackets;
 use crate::put::put;
+use crate::register_file::tick;
 use crate::rows::rows_at;
 use c6x_access::Map;
 use c6x_base::Side;
@@ -230,4 +232,28 @@ pub(crate) fn advance(p: &mut Context, lane: &mut Lane<'_>, known: &mut KnownPac
 {
     let end = step(p, lane.map, lane.board, known);
     end_cycle(p, end);
+}
+
+/// Does one cycle where nothing is issued at it and it is not the last, and tells whether it did.
+pub(crate) fn wait(p: &mut Context) -> bool
+    requires sound { IsSound p.old }
+    requires more { p.old.cycles < p.old.limit }
+    ensures sound { IsSound p.new }
+    ensures within { IsWithin p.new }
+    ensures limit { p.new.limit ≡ p.old.limit }
+    ensures ended { p.new.ended ≡ p.old.ended }
+    ensures unchanged { result ≡ false → p.new ≡ p.old }
+    ensures cycles { result ≡ true → p.new.cycles ≡ p.old.cycles + 1 }
+    ensures keeps { result ≡ true → (b : Memory) (s : Origin) (l : Life) → p.old.ended ≡ None → Keeps p.old b s l → Keeps p.new b s (next_of s l) }
+{
+    if p.cycles + 1 == p.limit {
+        return false;
+    }
+    match issue_address(p) {
+        Some(_) => false,
+        None => {
+            tick(p);
+            true
+        }
+    }
 }
