@@ -1,3 +1,12 @@
 pub mod Text
 pub mod Arguments
 pub mod Verbs
+pub mod Walks
+pub mod Rows
+pub mod Shown
+pub mod Sound
+pub mod Complete
+pub mod Taken
+pub mod Spelled
+pub mod Known
+pub mod Getters

@@ -1,4 +1,6 @@
-pub mod Words
 pub mod Arguments
-pub mod Files
 pub mod Requests
+pub mod Told
+pub mod Grammar
+pub mod Asked
+pub mod Found

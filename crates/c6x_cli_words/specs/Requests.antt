@@ -3,8 +3,7 @@ use Rattle.std.specs.Prelude.{◌≡◌, ℕ, Bool, true, false, IsTrue, List, [
 use Rattle.std.specs.Option.{option_to_list}
 use Rattle.c6x_policy.specs.declared.kind.Kind.{Kind}
 use Rattle.c6x_policy.specs.declared.kind.Kind.TheVariants.{Round}
-use Rattle.c6x_cli_words.specs.Arguments.{AreSpelled, is_positional, kinds_of, once_if, plans_of, seeds_of, times_told}
-use Rattle.c6x_cli_words.specs.declared.argument.Argument.{Argument}
+use Rattle.c6x_cli_words.specs.Arguments.{Argument, AreSpelled, is_positional, kinds_of, once_if, plans_of, seeds_of, times_told}
 use Rattle.c6x_cli_words.specs.declared.request.Request.{Request}
 use Rattle.c6x_cli_words.specs.declared.request.Request.TheVariants.{Assemble, Dis, Link, Map, Run, Show}
 

@@ -2,11 +2,10 @@
 #![tactic(auto)]
 
 mod argument;
+mod asking;
+mod grammar;
 mod reading;
 mod request;
-mod run_words;
-mod words;
 
-pub use argument::Argument;
 pub use reading::parse_words;
 pub use request::Request;

@@ -1,78 +1,88 @@
-ghost use Rattle.std.specs.Prelude.{◌≡◌, ℕ, List, ◌∷◌, codes};
-ghost use Rattle.c6x_cli_words.specs.Arguments.{is_positional};
-ghost use Rattle.c6x_cli_words.specs.Files.{IsOne, IsTwo};
+ghost use Rattle.std.specs.Prelude.{◌≡◌, true, IfOk, MatchOption, None, Option, map};
+ghost use Rattle.std.specs.List.{list_all};
 ghost use Rattle.c6x_cli_words.specs.Requests.{IsReading, WordsHaveOneReading};
-ghost use Rattle.c6x_cli_words.specs.Words.{words_in};
+ghost use Rattle.c6x_cli_words.specs.Told.{begins_plain, is_known, starts_plain};
+ghost use Rattle.c6x_cli_words.specs.declared.request.Request.{Request as AskedRequest};
 
-use crate::argument::is_file_name;
+use crate::asking::request_in;
+use crate::grammar::matches_in;
 use crate::request::Request;
-use crate::run_words::parse_run;
-use crate::words::Words;
 use c6x_base::Name;
+use std::alloc::{AllocError, Global};
+use std::str;
 
 /// What the words ask for. `None` exactly where they have no reading.
-pub fn parse_words(words: Vec<Name>) -> Option<Request>
-    ensures { IsReading words.items result }
+pub fn parse_words(alloc: Global, words: Vec<Name>) -> Result<Option<Request>, AllocError>
+    ensures { IfOk result (IsReading words.items) }
 {
-    let mut words = Words::of(words);
-    let verb = words.next()?;
-    parse_verb(&verb, words)
-}
-
-/// What a verb and the words behind it ask for.
-fn parse_verb(verb: &Name, words: Words) -> Option<Request>
-    ensures { IsReading (verb.now ∷ words_in words) result }
-{
-    let verb = verb.as_bytes();
-    if verb == b"as".as_slice() {
-        let (input, output) = two_files(words)?;
-        return Some(Request::Assemble { input, output });
-    }
-    if verb == b"ld".as_slice() {
-        let (plan, output) = two_files(words)?;
-        return Some(Request::Link { plan, output });
-    }
-    if verb == b"dis".as_slice() {
-        let input = one_file(words)?;
-        return Some(Request::Dis { input });
-    }
-    if verb == b"show".as_slice() {
-        let input = one_file(words)?;
-        return Some(Request::Show { input });
-    }
-    if verb == b"map".as_slice() {
-        let plan = one_file(words)?;
-        return Some(Request::Map { plan });
-    }
-    if verb == b"run".as_slice() {
-        return parse_run(words);
-    }
-    None
-}
-
-/// The file that the words are.
-fn one_file(mut words: Words) -> Option<Name>
-    ensures { IsOne (words_in words) result }
-{
-    let file = words.next()?;
-    if words.next().is_none() && is_file_name(file.as_bytes()) {
-        Some(file)
-    } else {
-        None
+    match texts_of(alloc, &words)? {
+        Some(texts) => read(alloc, texts.as_slice()),
+        None => Ok(None),
     }
 }
 
-/// The two files that the words are.
-fn two_files(mut words: Words) -> Option<(Name, Name)>
-    ensures { IsTwo (words_in words) result }
+/// The words as texts, where each is text and may stand among this command's words: clap takes more than these.
+fn texts_of<'a>(alloc: Global, words: &'a Vec<Name>) -> Result<Option<Vec<&'a str>>, AllocError>
+    ensures { IfOk result (λ texts. MatchOption texts (IsReading words.entry.now.items None)
+        (λ texts. (map (λ w. w.now) texts.items ≡ words.entry.now.items) × (list_all is_known words.entry.now.items ≡ true))) }
 {
-    let first = words.next()?;
-    let second = one_file(words)?;
-    if is_file_name(first.as_bytes()) {
-        Some((first, second))
-    } else {
-        None
+    let mut texts = Vec::new(alloc);
+    for word in words {
+        let Ok(text) = str::from_utf8(word.as_bytes()) else {
+            return Ok(None);
+        };
+        if !is_known(text.as_bytes()) {
+            return Ok(None);
+        }
+        texts.push(text)?;
     }
+    Ok(Some(texts))
+}
+
+/// What clap reads in the words, where the first is no option.
+fn read(alloc: Global, words: &[&str]) -> Result<Option<Request>, AllocError>
+    requires { list_all is_known (map (λ w. w.now) words.now) ≡ true }
+    ensures { IfOk result (IsReading (map (λ w. w.now) words.now)) }
+{
+    if !starts_plain(words) {
+        return Ok(None);
+    }
+    let found = matches_in(alloc, words)?;
+    match found {
+        Some(matches) => request_in(alloc, &matches),
+        None => Ok(None),
+    }
+}
+
+/// Whether there is a first word, and it begins with no dash.
+fn starts_plain(words: &[&str]) -> bool
+    ensures { result ≡ starts_plain (map (λ w. w.now) words.now) }
+{
+    match words {
+        [first, ..] => begins_plain(first.as_bytes()),
+        [] => false,
+    }
+}
+
+/// Whether a word begins with no dash.
+fn begins_plain(word: &[u8]) -> bool
+    ensures { result ≡ begins_plain word.now }
+{
+    match word {
+        [first, ..] => *first != b'-',
+        [] => true,
+    }
+}
+
+/// Whether a word begins with no dash, or is an option of this command.
+#[tactic(auto, unfolding(crate::specs::Told::is_known))]
+fn is_known(word: &[u8]) -> bool
+    ensures { result ≡ is_known word.now }
+{
+    begins_plain(word)
+        || word == b"--policy".as_slice()
+        || word == b"--seed".as_slice()
+        || word == b"--turns".as_slice()
 }
 
 /// Words have one reading.
