@@ -8,9 +8,9 @@ use Rattle.c6x_cli_steps.specs.declared.cause.Cause.TheVariants.{Usage}
 use Rattle.c6x_policy.specs.Chooser.{Chooser}
 use Rattle.c6x_policy.specs.declared.kind.Kind.{Kind}
 use Rattle.c6x_cli_steps.specs.Policies.{KeepsPolicies}
-use Rattle.c6x_cli_steps.specs.declared.prepare_error.PrepareError.TheVariants.{Because}
+use Rattle.c6x_cli_steps.specs.declared.prepare_error.PrepareError.TheVariants.{Because, Memory as NoMemory}
 use Rattle.c6x_cli_exits.specs.Exits.{Exits, IsStopped}
-use Rattle.c6x_cli_steps.specs.Lines.{Reports, usage_line}
+use Rattle.c6x_cli_steps.specs.Lines.{Reports, memory_line, usage_line}
 use Rattle.c6x_cli_exits.specs.Statuses.{Keeps, Performs, Shows}
 use Rattle.c6x_cli_steps.specs.Stores.{KeepsWriteFaults}
 use Rattle.c6x_cli_steps.specs.World.{World, world}
@@ -40,7 +40,7 @@ shows_misread status storing before after stopped =
 pub usage_misread : (read : Option Request) (status : ℕ) (before after : World) → read ≡ None → IsStopped usage_line 2 [] status before after → EndsUsage status read
 usage_misread read status before after is stopped = record {
   only = λ _. is;
-  whenever = λ _. elim stopped.reports [ inl told ↦ inl told.0 | inr cut ↦ inr cut.0 ];
+  whenever = λ _. elim stopped.reports [ inl told ↦ inl told.0 | inr cut ↦ inr (inl cut.0) ];
 }
 
 faults_same : (storing : Bool) (shelf : Shelved) → KeepsWriteFaults storing shelf shelf
@@ -63,3 +63,26 @@ usage_performed read request board storing asking status before after is perform
 -- and of the policies
 pub policies_misread : (status : ℕ) (asking : Option Kind) (before after : World) → IsStopped usage_line 2 [] status before after → KeepsPolicies status asking before.policies after.policies
 policies_misread status asking before after stopped = policies_stopped usage_line 2 status asking before after (λ is. omega (arith, is)) stopped
+
+-- where memory ran out while the words were read, nothing but the line was put
+pub stopped_unread : (status : ℕ) (shelf : Shelved) (out err new_err : Taken) (board : Memory) (policies : List Chooser) → Reports memory_line 7 status err new_err → IsStopped memory_line 7 [] status (world shelf out err board policies) (world shelf out new_err board policies)
+stopped_unread status shelf out err new_err board policies reports = record {
+  leaves = leaves_nothing (world shelf out err board policies) (world shelf out new_err board policies) refl refl refl refl;
+  reports = reports;
+}
+
+pub exits_unread : (read : Option Request) (told : Files) (board : Memory) (status : ℕ) (before after : World) → IsStopped memory_line 7 [] status before after → Exits (steps_of read told board) status before after
+exits_unread read told board status before after stopped = inr (inr stopped)
+
+pub shows_unread : (status : ℕ) (storing : Bool) (before after : World) → IsStopped memory_line 7 [] status before after → Shows status storing before after
+shows_unread status storing before after stopped =
+    shows_stopped NoMemory status storing before after (λ is. absurd (omega (arith, is))) (λ is. absurd (omega (arith, is))) stopped
+
+pub usage_unread : (read : Option Request) (status : ℕ) (before after : World) → IsStopped memory_line 7 [] status before after → EndsUsage status read
+usage_unread read status before after stopped = record {
+  only = λ two. elim stopped.reports [ inl told ↦ absurd (omega (arith, told.0, two)) | inr cut ↦ absurd (omega (arith, cut.0, two)) ];
+  whenever = λ _. elim stopped.reports [ inl told ↦ inr (inr told.0) | inr cut ↦ inr (inl cut.0) ];
+}
+
+pub policies_unread : (status : ℕ) (asking : Option Kind) (before after : World) → IsStopped memory_line 7 [] status before after → KeepsPolicies status asking before.policies after.policies
+policies_unread status asking before after stopped = policies_stopped memory_line 7 status asking before after (λ is. omega (arith, is)) stopped

@@ -15,7 +15,7 @@ abbrev pub served : Option Request → List Chooser → Option Request
 served read policies = served_by read (kind_asked read) policies
 
 -- Status 2 comes exactly where the words have no reading, or ask for a policy of a kind that is not there, but where its line
--- could not be put.
+-- could not be put, or memory ran out while they were read.
 pub record EndsUsage (status : ℕ) (read : Option Request) : Type 0 where
   pub only : status ≡ 2 → read ≡ None
-  pub whenever : read ≡ None → (status ≡ 2) ⊎ (status ≡ 6)
+  pub whenever : read ≡ None → (status ≡ 2) ⊎ ((status ≡ 6) ⊎ (status ≡ 7))

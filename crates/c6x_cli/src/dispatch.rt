@@ -1,4 +1,4 @@
-ghost use Rattle.std.specs.Prelude.{◌≡◌, ◌⊎◌, ℕ, All, List, Ok, Option, Some, map};
+ghost use Rattle.std.specs.Prelude.{◌≡◌, ◌⊎◌, ℕ, All, IfOk, List, Ok, Option, Some, map};
 ghost use Rattle.c6x_spec.specs.Files.{Files};
 ghost use Rattle.c6x_cli.specs.Meaning.{CanCommit, HasPolicy, asks, is_store, outcome_of, steps_of};
 ghost use Rattle.c6x_cli.specs.Relocating.{Relocates};
@@ -21,7 +21,7 @@ use c6x_board::Board;
 use c6x_cli_steps::{Cause, CommitError, PrepareError, report_error, report_write_fault};
 use c6x_cli_words::{Request, parse_words};
 use c6x_ports::{Policy, Shelf, Sink};
-use std::alloc::Global;
+use std::alloc::{AllocError, Global};
 
 /// Does what the words ask for, over a shelf of files, an output, an error output, a board and policies, and gives the exit
 /// status.
@@ -83,20 +83,26 @@ pub fn command<S: Shelf, O: Sink, E: Sink>(
         → Relocates (served read (map chooser policies.old.items)) told board.old board.new }
 {
     let _ = board.len();
-    match request_of(words, policies) {
-        Some(request) => perform(alloc, request, shelf, out, err, board, policies),
-        None => report_error(err, PrepareError::Because(Cause::Usage)),
+    match request_of(alloc, words, policies) {
+        Ok(Some(request)) => perform(alloc, request, shelf, out, err, board, policies),
+        Ok(None) => report_error(err, PrepareError::Because(Cause::Usage)),
+        Err(_) => report_error(err, PrepareError::Memory),
     }
 }
 
 /// What the words ask for, where the policy that it asks for is there.
-fn request_of(words: Vec<Name>, policies: &Vec<Box<dyn Policy>>) -> Option<Request>
-    ensures served { (read : Option Request) → IsReading words.items read → result ≡ served read (map chooser policies.now.items) }
-    ensures there { HasPolicy (kind_asked result) (map chooser policies.now.items) }
+fn request_of(
+    alloc: Global,
+    words: Vec<Name>,
+    policies: &Vec<Box<dyn Policy>>,
+) -> Result<Option<Request>, AllocError>
+    ensures served { (read : Option Request) → IsReading words.items read → IfOk result (λ request. request ≡ served read (map chooser policies.now.items)) }
+    ensures there { IfOk result (λ request. HasPolicy (kind_asked request) (map chooser policies.now.items)) }
 {
-    match parse_words(words) {
-        Some(request) => serve(request, policies),
-        None => None,
+    let read = parse_words(alloc, words)?;
+    match read {
+        Some(request) => Ok(serve(request, policies)),
+        None => Ok(None),
     }
 }
 
