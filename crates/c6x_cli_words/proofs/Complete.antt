@@ -34,11 +34,15 @@ holds_if : {A : Type 0} (test : Bool) (value found : A) → (if test then Some v
 holds_if true value found is = refl
 holds_if false value found is = absurd (cc)
 
-pub digits_of : (word : Text) (number : ℕ) → number_of word ≡ Some number → list_all is_digit word ≡ true
-unfolding number_of number_in is_number
-digits_of word number is =
+pub digits_in : (least most : ℕ) (word : Text) (number : ℕ) → number_in least most word ≡ Some number → list_all is_digit word ≡ true
+unfolding number_in is_number
+digits_in least most word number is =
     let within = holds_if _ _ number is in
     (both _ _ (both _ _ (both _ _ within).0).0).1
+
+pub digits_of : (word : Text) (number : ℕ) → number_of word ≡ Some number → list_all is_digit word ≡ true
+unfolding number_of
+digits_of word number is = digits_in 0 4294967295 word number is
 
 plain_unless : (x : ℕ) → (x ≡ 45 → ⊥) → not (nat_eq x 45) ≡ true
 plain_unless x never = elim (split (nat_eq x 45)) [
