@@ -29,11 +29,11 @@ passed : {T E : Type 0} (b : Bool) (e : E) (x y : T) → cond b (Err e) (Ok x) �
 passed true e x y is = absurd (cc)
 passed false e x y is = (refl, cc)
 
-counted_same : (line : ℕ) (r : Result State AsmRule) (t : State) → counted line r ≡ Ok t → r ≡ Ok t
+pub counted_same : (line : ℕ) (r : Result State AsmRule) (t : State) → counted line r ≡ Ok t → r ≡ Ok t
 counted_same line (Ok s) t is = ap Ok (passed _ _ s t is).1
 counted_same line (Err rule) t is = absurd (cc)
 
-sized_same : (text : List ℕ) (r : Result State AsmRule) (t : State) → sized text r ≡ Ok t → r ≡ Ok t
+pub sized_same : (text : List ℕ) (r : Result State AsmRule) (t : State) → sized text r ≡ Ok t → r ≡ Ok t
 sized_same text (Ok s) t is = ap Ok (passed _ _ s t is).1
 sized_same text (Err rule) t is = absurd (cc)
 
@@ -71,9 +71,10 @@ after_kept text (line ∷ lines) number s t kept is = by (lined text number line
     by (Ok u) here rest later = later u (lined_kept text number line s u kept.sound here) rest
     by (Err rule) here rest later = absurd (cc)
 
-lines_kept : (text : List ℕ) (lines : List (List Lexeme)) (t : State) → read_lines text lines ≡ Ok t → IsKept text t
+-- a text whose lines and packets break no rule is what its lines come to
+pub lines_after : (text : List ℕ) (lines : List (List Lexeme)) (t : State) → read_lines text lines ≡ Ok t → after_lines text 1 nothing lines ≡ Ok t
 unfolding read_lines
-lines_kept text lines t is = by (after_lines text 1 nothing lines) refl is
+lines_after text lines t is = by (after_lines text 1 nothing lines) refl is
   where
     packets : (line : Option ℕ) (u : State) → or_packet line (Ok u) ≡ Ok t → u ≡ t
     packets None u here = cc
@@ -87,9 +88,12 @@ lines_kept text lines t is = by (after_lines text 1 nothing lines) refl is
     never broken (Ok u) here = behind (bad_line None u.sections) broken here
     never broken (Err other) here = cc
 
-    by : (r : Result State Broken) → after_lines text 1 nothing lines ≡ r → ended text lines r ≡ Ok t → IsKept text t
-    by (Ok u) ran here = after_kept text lines 1 nothing t (nothing_kept text) (ran ∙ ap Ok (packets (bad_line None u.sections) u here))
+    by : (r : Result State Broken) → after_lines text 1 nothing lines ≡ r → ended text lines r ≡ Ok t → after_lines text 1 nothing lines ≡ Ok t
+    by (Ok u) ran here = ran ∙ ap Ok (packets (bad_line None u.sections) u here)
     by (Err broken) ran here = absurd (never broken (after_lines text 1 nothing (before broken.line lines)) here)
+
+lines_kept : (text : List ℕ) (lines : List (List Lexeme)) (t : State) → read_lines text lines ≡ Ok t → IsKept text t
+lines_kept text lines t is = after_kept text lines 1 nothing t (nothing_kept text) (lines_after text lines t is)
 
 -- the sections and symbols of an accepted text are sound and pass no limit
 pub read_kept : (text : List ℕ) (t : State) → read_of text ≡ Ok t → IsKept text t

@@ -5,3 +5,4 @@ pub mod Running
 pub mod Kept
 pub mod Reading
 pub mod Packets
+pub mod Meaning

@@ -11,11 +11,19 @@ ghost use Rattle.c6x_asm.specs.Running.{is_end, run_from, Runs, Goes};
 
 use crate::broken::Broken;
 use c6x_asm_limits::{Outline, is_large};
-use c6x_asm_lines::{AsmRule, Lexeme, lexeme_of, line_of};
+use c6x_asm_lines::{AsmRule, Lexeme, Line, lexeme_of};
 use c6x_asm_object::Object;
 use c6x_asm_steps::step;
 use c6x_lex::Token;
 use std::alloc::{AllocError, Global};
+
+#[tactic(auto, using(c6x_asm_grammar::proofs::Readings::read_as_spelled))]
+fn spelled_line(alloc: Global, lexemes: &[Lexeme]) -> Result<Option<Line>, AllocError>
+    ensures { IfOk result (λ line. line ≡ line_of lexemes.now) }
+{
+    let line = c6x_asm_grammar::read_line(alloc, lexemes)?;
+    Ok(line)
+}
 
 fn read_line<'a>(
     alloc: Global,
@@ -28,7 +36,7 @@ fn read_line<'a>(
     ensures is { IfOk result (λ done. Becomes done object.new (read_line text.now number (line_of lexemes.now) (state_of object.old))) }
     ensures sound { IfOk result (λ done. IsSound text.now object.new) }
 {
-    match line_of(alloc, lexemes)? {
+    match spelled_line(alloc, lexemes)? {
         None => Ok(Err(AsmRule::Syntax)),
         Some(line) => step(alloc, text, number, &line, object),
     }

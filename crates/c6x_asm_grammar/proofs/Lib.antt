@@ -3,4 +3,5 @@ pub mod Operands
 pub mod Lines
 pub mod Fronts
 pub mod Spelled
+pub mod Readings
 mod Worked

@@ -1,4 +1,8 @@
-//! The grammar of a line as a spelling: which lexemes spell which line, apart from how they are read.
+//! The grammar of a line as a spelling: which lexemes spell which line, and the call that reads by it.
 //!
-//! There is no function here. `specs/` has the definitions, and `proofs/` the lemmas about them.
+//! `specs/` says which line lexemes spell, apart from how they are read; `read_line` is held to that alone.
 #![tactic(auto)]
+
+mod reading;
+
+pub use reading::read_line;

@@ -1,0 +1,10 @@
+pub mod Contents
+pub mod Firsts
+pub mod Grown
+pub mod Lined
+pub mod Stepped
+pub mod Told
+pub mod Entries
+pub mod Telling
+pub mod Fulfilled
+pub mod Whole

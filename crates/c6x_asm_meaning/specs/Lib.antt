@@ -1,0 +1,4 @@
+pub mod Said
+pub mod Sections
+pub mod Relocations
+pub mod Symbols
