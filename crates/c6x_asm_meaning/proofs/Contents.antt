@@ -8,21 +8,7 @@ use Rattle.c6x_asm_lines.specs.declared.word.Word.{Word}
 use Rattle.c6x_asm_operands.specs.declared.relocation.Relocation.{Relocation}
 use Rattle.c6x_asm_object.specs.Sections.{odd}
 use Rattle.c6x_asm_meaning.specs.Said.{Saying, says_nothing, says_directive, says_instruction, Said}
-use Rattle.c6x_asm_meaning.specs.Sections.{chained_or, contents, contribution, is_joined, size_at}
-
--- where an instruction ends
-abbrev pub end_at : ℕ → Saying → Option ℕ
-end_at place (says_instruction chained word relocation) = Some (place + 4)
-end_at place _ = None
-
-abbrev pub later_or : Option ℕ → Option ℕ → Option ℕ
-later_or (Some end) other = Some end
-later_or None other = other
-
--- where the last instruction of these lines ends
-abbrev pub last_end : ℕ → List Said → Option ℕ
-last_end place [] = None
-last_end place (l ∷ lines) = later_or (last_end (place + size_at place l.saying) lines) (end_at place l.saying)
+use Rattle.c6x_asm_meaning.specs.Sections.{chained_or, contents, contribution, end_at, is_joined, last_end, later_or, size_at}
 
 -- the p bit of the last word set
 abbrev pub joined_bytes : List ℕ → List ℕ

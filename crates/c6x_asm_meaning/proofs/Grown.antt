@@ -14,8 +14,8 @@ use Rattle.c6x_asm_object.specs.declared.instr_word.InstrWord.{InstrWord}
 use Rattle.c6x_asm_object.specs.Kinds.{first_align, kind_named}
 use Rattle.c6x_asm_object.specs.Sections.{is_zero, odd, padding, with_align, with_bytes, with_instruction, with_number, with_parallel, with_zeros}
 use Rattle.c6x_asm_meaning.specs.Said.{Saying, says_directive, says_instruction, Said}
-use Rattle.c6x_asm_meaning.specs.Sections.{IsSectionOf, aligned, chained_or, contents, contribution, number_bytes, raised, word_said, words_in}
-use Rattle.c6x_asm_meaning.proofs.Contents.{contents_joined, contents_plain, end_at, last_end, last_push, later_or}
+use Rattle.c6x_asm_meaning.specs.Sections.{IsSectionOf, aligned, chained_or, contents, contribution, end_at, last_end, later_or, number_bytes, raised, word_said, words_in}
+use Rattle.c6x_asm_meaning.proofs.Contents.{contents_joined, contents_plain, last_push}
 
 -- a section as the lines so far make it: what it is, where its last instruction ends, and its instructions
 pub record IsSectionState (name : List ℕ) (lines : List Said) (p : AsmSection) : Type 0 where

@@ -8,3 +8,5 @@ pub mod Entries
 pub mod Telling
 pub mod Fulfilled
 pub mod Whole
+pub mod Least
+pub mod Broken

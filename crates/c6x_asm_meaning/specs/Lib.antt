@@ -2,3 +2,4 @@ pub mod Said
 pub mod Sections
 pub mod Relocations
 pub mod Symbols
+pub mod Breaking

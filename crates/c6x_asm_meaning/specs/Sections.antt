@@ -93,6 +93,20 @@ abbrev pub contents : ℕ → List Said → List ℕ
 contents place [] = []
 contents place (l ∷ lines) = contribution place (is_joined (place + size_at place l.saying) lines) l.saying ++ contents (place + size_at place l.saying) lines
 
+-- where an instruction ends
+abbrev pub end_at : ℕ → Saying → Option ℕ
+end_at place (says_instruction chained word relocation) = Some (place + 4)
+end_at place _ = None
+
+abbrev pub later_or : Option ℕ → Option ℕ → Option ℕ
+later_or (Some end) other = Some end
+later_or None other = other
+
+-- where the last instruction of these lines ends
+abbrev pub last_end : ℕ → List Said → Option ℕ
+last_end place [] = None
+last_end place (l ∷ lines) = later_or (last_end (place + size_at place l.saying) lines) (end_at place l.saying)
+
 -- the alignment that a section of this one has behind a line
 abbrev pub raised : ℕ → Saying → ℕ
 raised align (says_directive (Align other)) = max align other
