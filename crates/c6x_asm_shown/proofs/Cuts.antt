@@ -10,7 +10,7 @@ use Rattle.c6x_lex.specs.declared.kind.TokenKind.{TokenKind}
 use Rattle.c6x_lex.specs.declared.kind.TokenKind.TheVariants.{Word as WordToken, Number as NumberToken, Punctuator as PunctuatorToken}
 use Rattle.c6x_lex.specs.declared.place.Place.{Place}
 use Rattle.c6x_lex.proofs.Longest.{longest_word, longest_decimal, longest_sign}
-use Rattle.c6x_dis.specs.Atoms.{Atom, word, number, punctuator, space, bytes_of}
+use Rattle.c6x_dis_text.specs.Atoms.{Atom, word, number, punctuator, space, bytes_of}
 use Rattle.c6x_asm_shown.specs.Pieces.{AreApart, tokens_at}
 use Rattle.c6x_asm_shown.proofs.Signs.{sign_is, stops, Stops}
 

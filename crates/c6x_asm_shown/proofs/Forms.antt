@@ -21,7 +21,7 @@ use Rattle.c6x_asm_lines.specs.declared.primary.Primary.TheVariants.{Register as
 use Rattle.c6x_asm_lines.specs.declared.value.Value.TheVariants.{Primary as PrimaryValue}
 use Rattle.c6x_asm_instr.specs.Instructions.{is_store, is_swapped}
 use Rattle.c6x_asm_shown.proofs.Operands.{AreShown, IsShown, IsShownNumber, IsShownValue}
-use Rattle.c6x_dis.specs.Shown.{access_operands, branch_operands, first_operand, long_address, memory_operands, move_number, natural, operands_for, register_at, second_side, short_address, short_offset, signed}
+use Rattle.c6x_dis_text.specs.Shown.{access_operands, branch_operands, first_operand, long_address, memory_operands, move_number, natural, operands_for, register_at, second_side, short_address, short_offset, signed}
 
 -- what a move's constant is, beside the bounds of the other parts
 abbrev pub FitsMove : Op → Type 0

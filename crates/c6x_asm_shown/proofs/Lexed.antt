@@ -6,7 +6,7 @@ use Rattle.std.proofs.lemmas.Bool.{le-leb}
 use Rattle.std.specs.List.{slice_range}
 use Rattle.c6x_asm_lines.specs.Bytes.{bytes_at}
 use Rattle.c6x_asm_lines.specs.Lexemes.{lexeme_of, lexemes_by_line}
-use Rattle.c6x_dis.specs.Atoms.{Atom, word, number, punctuator, space, bytes_of}
+use Rattle.c6x_dis_text.specs.Atoms.{Atom, word, number, punctuator, space, bytes_of}
 use Rattle.c6x_asm_shown.specs.Pieces.{tokens_at, lexemes_at}
 
 -- the bytes between two others

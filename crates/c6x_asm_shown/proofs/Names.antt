@@ -20,7 +20,7 @@ use Rattle.c6x_asm_operands.specs.declared.mnemonic.Mnemonic.TheVariants.{Two, M
 use Rattle.c6x_asm_operands.specs.declared.unit.Unit.{Unit as AsmUnit}
 use Rattle.c6x_asm_instr.specs.Instructions.{is_nop}
 use Rattle.c6x_asm_shown.specs.Pieces.{is_word}
-use Rattle.c6x_dis.specs.Shown.{path_bytes, side_digit, tested_word, unit_letter, unit_word}
+use Rattle.c6x_dis_text.specs.Shown.{path_bytes, side_digit, tested_word, unit_letter, unit_word}
 
 pub tested_class : (r : CondReg) → class_of (tested_word r) ≡ RegisterClass (tested r)
 unfolding class_of register_of

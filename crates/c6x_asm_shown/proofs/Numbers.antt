@@ -17,7 +17,7 @@ use Rattle.c6x_asm_lines.specs.declared.word.WordClass.{WordClass}
 use Rattle.c6x_asm_lines.specs.declared.word.WordClass.TheVariants.{Register as RegisterClass}
 use Rattle.c6x_asm_operands.specs.Operands.{same_side}
 use Rattle.c6x_asm_shown.specs.Pieces.{is_decimal, is_word}
-use Rattle.c6x_dis.specs.Shown.{register_word}
+use Rattle.c6x_dis_text.specs.Shown.{register_word}
 
 digit_is : (b : ℕ) → digit_value b < 10 → is_digit b ≡ true
 digit_is b small = let d = digit_from_value b small in rw (le-leb 48 b d.0, le-leb b 57 d.1) refl

@@ -17,8 +17,8 @@ use Rattle.c6x_asm_lines.specs.declared.value.Value.TheVariants.{Primary as Prim
 use Rattle.c6x_asm_grammar.specs.Spelling.{SpellsNumber, number_alone, number_minus, plain_register, plain_number, SpellsValue, value_plain, base_register, SpellsOffset, in_brackets, in_parentheses, ahead, ahead_bytes, back, up_by, down_by, then_up_by, then_down_by, SpellsAddress, address_spelled, SpellsOperand, operand_address, operand_value, SpellsList, one_operand, more_operands, SpellsOperands, no_operands, some_operands}
 use Rattle.c6x_asm_shown.specs.Pieces.{AreApart, is_end, lexemes_at}
 use Rattle.c6x_asm_shown.proofs.Numbers.{decimal_token, number_of_decimal, register_class, register_token}
-use Rattle.c6x_dis.specs.Atoms.{Atom, word, number, punctuator, space, atom_bytes, bytes_of}
-use Rattle.c6x_dis.specs.Shown.{base_atoms, more_atoms, number_atoms, offset_atoms, operand_atoms, operands_atoms, signs_before, signs_behind, value_atoms}
+use Rattle.c6x_dis_text.specs.Atoms.{Atom, word, number, punctuator, space, atom_bytes, bytes_of}
+use Rattle.c6x_dis_text.specs.Shown.{base_atoms, more_atoms, number_atoms, offset_atoms, operand_atoms, operands_atoms, signs_before, signs_behind, value_atoms}
 
 -- what an instruction's line has as operands: registers of 32, numbers of 32 bits, and addresses of these
 abbrev pub IsShownNumber : Number → Type 0

@@ -4,7 +4,7 @@ use Rattle.std.proofs.lemmas.Bool.{and_parts, eqb-true, true≢false}
 use Rattle.std.specs.List.{prefix_len}
 use Rattle.c6x_lex.specs.Classes.{hex_len}
 use Rattle.c6x_lex.specs.Forms.{starts_word, continues_word, is_digit, is_punctuator, is_blank}
-use Rattle.c6x_dis.specs.Atoms.{Atom, word, number, punctuator, space, bytes_of}
+use Rattle.c6x_dis_text.specs.Atoms.{Atom, word, number, punctuator, space, bytes_of}
 use Rattle.c6x_asm_shown.specs.Pieces.{AreApart, is_end}
 
 -- a punctuator of this byte is nothing else

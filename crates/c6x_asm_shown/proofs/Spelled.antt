@@ -29,9 +29,9 @@ use Rattle.c6x_asm_shown.specs.Pieces.{AreApart, is_word, lexemes_at, word_at}
 use Rattle.c6x_asm_shown.proofs.Lexed.{bytes_seam}
 use Rattle.c6x_asm_shown.proofs.Names.{mnemonic_named, nop_class, nop_named, tested_class, tested_token, unit_class, unit_token}
 use Rattle.c6x_asm_shown.proofs.Operands.{AreShown, bytes_joined, lexemes_joined, operands_apart, operands_spelled}
-use Rattle.c6x_dis.specs.Atoms.{Atom, word, space, bytes_of}
-use Rattle.c6x_dis.specs.Shown.{condition_atoms, mnemonic_for, operands_atoms, operands_for, path_for, shown, shown_atoms, unit_atoms, unit_for, unit_word}
-use Rattle.c6x_dis.specs.Reads.{IsReadBack, unit_read}
+use Rattle.c6x_dis_text.specs.Atoms.{Atom, word, space, bytes_of}
+use Rattle.c6x_dis_text.specs.Shown.{condition_atoms, mnemonic_for, operands_atoms, operands_for, path_for, shown, shown_atoms, unit_atoms, unit_for, unit_word}
+use Rattle.c6x_dis_text.specs.Reads.{IsReadBack, unit_read}
 
 -- the line stands apart
 condition_apart : (c : Cond) (atoms : List Atom) → AreApart atoms → AreApart (condition_atoms c ++ atoms)

@@ -10,9 +10,9 @@ use Rattle.c6x_asm_shown.specs.Lines.{IsLineRead}
 use Rattle.c6x_asm_shown.proofs.Forms.{FitsMove, operands_shown}
 use Rattle.c6x_asm_shown.proofs.Operands.{AreShown}
 use Rattle.c6x_asm_shown.proofs.Spelled.{line_is_read}
-use Rattle.c6x_dis.specs.Shown.{operands_for}
-use Rattle.c6x_dis.proofs.Valid.{move_fits}
-use Rattle.c6x_dis.proofs.Words.{read_back}
+use Rattle.c6x_dis_text.specs.Shown.{operands_for}
+use Rattle.c6x_dis_text.proofs.Valid.{move_fits}
+use Rattle.c6x_dis_text.proofs.Words.{read_back}
 
 moves_fit : (c : Cond) (op : Op) (chained : Bool) → IsValid (record { condition = c; op = op; chained = chained }) → FitsMove op
 moves_fit c (MoveOp kind side bits dst) chained valid = move_fits c kind side bits dst chained valid

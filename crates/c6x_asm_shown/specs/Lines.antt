@@ -13,8 +13,8 @@ use Rattle.c6x_asm_operands.specs.declared.mnemonic.Mnemonic.{Mnemonic}
 use Rattle.c6x_asm_operands.specs.declared.unit.Unit.{Unit as AsmUnit}
 use Rattle.c6x_asm_instr.specs.Instructions.{instruction_of, plain_made}
 use Rattle.c6x_asm_shown.specs.Pieces.{AreApart, lexemes_at, word_at}
-use Rattle.c6x_dis.specs.Atoms.{bytes_of}
-use Rattle.c6x_dis.specs.Shown.{condition_atoms, mnemonic_for, operands_for, shown, shown_atoms, unit_for, unit_word}
+use Rattle.c6x_dis_text.specs.Atoms.{bytes_of}
+use Rattle.c6x_dis_text.specs.Shown.{condition_atoms, mnemonic_for, operands_for, shown, shown_atoms, unit_for, unit_word}
 
 abbrev pub unit_at : ℕ → Option AsmUnit → Option Word
 unit_at at None = None

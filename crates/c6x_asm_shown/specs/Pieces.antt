@@ -10,7 +10,7 @@ use Rattle.c6x_asm_lines.specs.Lexemes.{class_of, lexemes_by_line, number_of, pu
 use Rattle.c6x_asm_lines.specs.declared.lexeme.Lexeme.{Lexeme}
 use Rattle.c6x_asm_lines.specs.declared.lexeme.Lexeme.TheVariants.{Word as Worded, Number as Numbered, Punctuator as Punctuated}
 use Rattle.c6x_asm_lines.specs.declared.word.Word.{Word}
-use Rattle.c6x_dis.specs.Atoms.{Atom, word, number, punctuator, space, bytes_of}
+use Rattle.c6x_dis_text.specs.Atoms.{Atom, word, number, punctuator, space, bytes_of}
 
 abbrev pub is_word : List ℕ → Bool
 is_word [] = false

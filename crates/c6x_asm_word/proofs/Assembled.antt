@@ -31,7 +31,7 @@ use Rattle.c6x_asm_word.proofs.Even.{cleared, even_spells, even_twice}
 use Rattle.c6x_asm_word.proofs.First.{text_cut, two_lines}
 use Rattle.c6x_asm_word.proofs.Sections.{one_word, word_section}
 use Rattle.c6x_asm_word.proofs.Steps.{done, first_lined, second_lined}
-use Rattle.c6x_dis.specs.Shown.{mnemonic_for, operands_for, shown, shown_atoms}
+use Rattle.c6x_dis_text.specs.Shown.{mnemonic_for, operands_for, shown, shown_atoms}
 
 -- the words of the first line
 keyword_is : (rest : List ℕ) → bytes_at (first_line ++ rest) 0 5 ≡ codes ".sect"

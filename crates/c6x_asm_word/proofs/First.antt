@@ -20,7 +20,7 @@ use Rattle.c6x_asm_shown.proofs.Cuts.{piece, space_piece, step, tokens_are, word
 use Rattle.c6x_asm_shown.proofs.Lexed.{lexemes_are}
 use Rattle.c6x_asm_shown.proofs.Signs.{sign_is}
 use Rattle.c6x_asm_word.specs.Words.{first_line}
-use Rattle.c6x_dis.specs.Atoms.{Atom, word, number, punctuator, space, bytes_of}
+use Rattle.c6x_dis_text.specs.Atoms.{Atom, word, number, punctuator, space, bytes_of}
 
 abbrev place : ℕ → Place
 place at = record { at = at; line = 1; start = 0 }

@@ -3,4 +3,4 @@ mod First
 mod Sections
 mod Steps
 mod Assembled
-mod Shown
+pub mod Shown

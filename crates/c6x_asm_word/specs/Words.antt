@@ -1,14 +1,13 @@
 -- The text of one instruction, and the object that it is assembled to: this project's own law on its two directions.
 use Rattle.std.specs.Prelude.{◌≡◌, ℕ, ◌+◌, ◌-◌, ◌%◌, List, [], ◌∷◌, ◌++◌, codes, slice_get, Some, Ok}
 use Rattle.std.specs.Int.{to_le_bytes, w32}
-use Rattle.c6x_instr.specs.Spelling.{Spells}
 use Rattle.c6x_instr.specs.declared.instr.Instr.{Instr}
 use Rattle.c6x_elf.specs.Abi.{SHF_ALLOC, SHF_EXECINSTR, SHT_PROGBITS}
 use Rattle.c6x_elf.specs.Lists.{section_name}
 use Rattle.c6x_elf.specs.declared.file.File.{File}
 use Rattle.c6x_elf.specs.declared.section.Section.{Section}
 use Rattle.c6x_asm.specs.Objects.{assembled}
-use Rattle.c6x_dis.specs.Shown.{shown}
+use Rattle.c6x_dis_text.specs.Shown.{shown}
 
 -- a line that goes to the section of code
 abbrev pub first_line : List ℕ
@@ -28,6 +27,7 @@ pub record IsOneWord (file : File) (word : ℕ) : Type 0 where
   pub size : section.size ≡ 4
   pub bytes : section.bytes ≡ to_le_bytes w32 word
 
--- The text is assembled, to the word of the instruction with bit 0 clear: the shown line says nothing of the p bit.
-abbrev pub ShownIsAssembled : Type 0
-ShownIsAssembled = (i : Instr) (word : ℕ) → Spells i word → (file : File) × (assembled (text_of i) ≡ Ok file) × IsOneWord file (word - word % 2)
+-- A line behind the first one is assembled to a file whose code is this word, with bit 0 clear: a shown line says nothing of
+-- the p bit.
+abbrev pub AssemblesTo : List ℕ → ℕ → Type 0
+AssemblesTo line word = (file : File) × (assembled (first_line ++ line) ≡ Ok file) × IsOneWord file (word - word % 2)

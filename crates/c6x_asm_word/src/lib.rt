@@ -1,9 +1,5 @@
 //! The text of one instruction: a section directive and a shown line are assembled to the word that the line was shown
-//! for.
+//! for. `show` of `c6x_dis` says so of the line that it gives.
 //!
-//! There is one law here, over the definitions of the assembler and of `c6x_dis`.
+//! There are definitions and lemmas alone here, over the assembler and over `c6x_dis_text`.
 #![tactic(auto)]
-
-mod laws;
-
-pub use laws::shown_is_assembled;

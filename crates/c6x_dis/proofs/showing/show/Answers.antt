@@ -1,9 +1,8 @@
-use Rattle.c6x_encoding.proofs.Bounds.{fits_valid}
-use Rattle.c6x_dis.proofs.Words.{read_back}
+use Rattle.std.proofs.Common.{subst, sym}
+use Rattle.c6x_asm_word.specs.Words.{AssemblesTo}
+use Rattle.c6x_asm_word.proofs.Shown.{shown_assembled}
 use Rattle.c6x_dis.proofs.showing.show.Goals as goal
 
-pub put_operands-requires-clause-fits : goal.put_operands-requires-clause-fits
-put_operands-requires-clause-fits c = fits_valid c.args.instr.now c.requires
-
-pub returns-clause-read : goal.returns-clause-read
-returns-clause-read c = read_back c.args.instr.now c.requires
+pub returns-clause-assembled : goal.returns-clause-assembled
+returns-clause-assembled c = λ word spells.
+    subst (λ line. AssemblesTo line word) (sym c.show.ensures.text) (shown_assembled c.args.instr.now word spells)

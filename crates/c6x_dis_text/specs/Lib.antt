@@ -1,0 +1,4 @@
+pub mod Atoms
+pub mod Shown
+pub mod Reads
+pub mod Listed
