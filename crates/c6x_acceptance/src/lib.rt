@@ -10,6 +10,8 @@ mod assembling;
 #[cfg(test)]
 mod devices;
 #[cfg(test)]
+mod generated;
+#[cfg(test)]
 mod images;
 #[cfg(test)]
 mod lengths;

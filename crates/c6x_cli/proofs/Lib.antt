@@ -2,3 +2,4 @@ pub mod Misread
 pub mod OutcomeKinds
 pub mod Served
 pub mod Relocated
+pub mod Boarded

@@ -9,7 +9,7 @@ use Rattle.c6x_cli_exits.specs.Statuses.{IsOfKind, Performs}
 use Rattle.c6x_cli_steps.specs.Stores.{KeepsWriteFaults}
 use Rattle.c6x_cli_steps.specs.World.{World}
 use Rattle.c6x_cli.specs.declared.prepared.Prepared.{Prepared}
-use Rattle.c6x_cli.specs.declared.prepared.Prepared.TheVariants.{Dis as PreparedDis, Map as PreparedMap, Run as PreparedRun, Show as PreparedShow, Store}
+use Rattle.c6x_cli.specs.declared.prepared.Prepared.TheVariants.{Dis as PreparedDis, Generate as PreparedGenerate, Map as PreparedMap, Run as PreparedRun, Show as PreparedShow, Store}
 use Rattle.c6x_cli_words.specs.declared.request.Request.{Request}
 use Rattle.c6x_cli.specs.Meaning.{asks, is_store, outcome_of, steps_of, HasPolicy}
 use Rattle.c6x_cli_words.specs.Requests.{is_storing, kind_asked}
@@ -20,6 +20,7 @@ is_of_kind (PreparedDis file) board = refl
 is_of_kind (PreparedShow file) board = refl
 is_of_kind (PreparedMap loading) board = refl
 is_of_kind (PreparedRun loading policy seed turns) board = refl
+is_of_kind (PreparedGenerate number loading) board = refl
 is_of_kind (Store name bytes) board = (name, (bytes, refl))
 
 pub kind_of_outcome : (prepared : Prepared) (board : Memory) (storing : Bool) → is_store prepared ≡ storing → IsOfKind storing board (outcome_of prepared board)
@@ -40,6 +41,7 @@ asks_kind (PreparedDis file) board = refl
 asks_kind (PreparedShow file) board = refl
 asks_kind (PreparedMap loading) board = refl
 asks_kind (PreparedRun loading policy seed turns) board = refl
+asks_kind (PreparedGenerate number loading) board = refl
 asks_kind (Store name bytes) board = refl
 
 pub asks_of_outcome : (prepared : Prepared) (board : Memory) (asking : Option Kind) → asks prepared ≡ asking → asked_kind (outcome_of prepared board).asked ≡ asking

@@ -1,9 +1,10 @@
 ghost use Rattle.std.specs.Prelude.{◌≤◌, List, Some, length, map};
 ghost use Rattle.c6x_spec.specs.Memory.{Memory};
 ghost use Rattle.c6x_policy.specs.Chooser.{Chooser};
+ghost use Rattle.c6x_policy.specs.declared.kind.Kind.TheVariants.{Round as round_kind};
 ghost use Rattle.c6x_ports.specs.Shelf.{Shelved};
 ghost use Rattle.c6x_ports.specs.Sink.{Taken};
-ghost use Rattle.c6x_cli.specs.Meaning.{CanCommit, HasPolicy, asks, is_store, outcome_of};
+ghost use Rattle.c6x_cli.specs.Meaning.{CanCommit, HasPolicy, asks, generated_outcome, is_store, outcome_of};
 ghost use Rattle.c6x_cli_loading.specs.Placing.{CanLoad};
 ghost use Rattle.c6x_cli_run.specs.Stages.{asked_of, map_stages, run_telling};
 ghost use Rattle.c6x_cli_show.specs.Stages.{code_stages, show_stages};
@@ -15,6 +16,7 @@ use crate::prepared::Prepared;
 use crate::serving::first_policy;
 use c6x_base::{Bytes, Name};
 use c6x_board::Board;
+use c6x_cli_gen::put_generated;
 use c6x_cli_loading::Loading;
 use c6x_cli_objects::store_file;
 use c6x_cli_run::{put_map, put_run};
@@ -47,6 +49,9 @@ pub fn commit<S: Shelf, O: Sink>(
         Prepared::Map(loading) => commit_map(&loading, out, board),
         Prepared::Run(loading, kind, seed, turns) => {
             commit_run(alloc, &loading, kind, seed, turns, out, board, policies)
+        }
+        Prepared::Generate(number, loading) => {
+            commit_generated(alloc, number, &loading, out, board, policies)
         }
         Prepared::Store(name, bytes) => commit_store(alloc, shelf, &name, &bytes),
     }
@@ -118,6 +123,27 @@ fn commit_run<O: Sink>(
             board,
             &mut policies[place],
         ),
+        None => unreachable!(),
+    }
+}
+
+/// Runs what a number came to under the first policy of kind Round, writes the board and puts the sums.
+fn commit_generated<O: Sink>(
+    alloc: Global,
+    number: u32,
+    loading: &Loading,
+    out: &mut O,
+    board: &mut Board,
+    policies: &mut Vec<Box<dyn Policy>>,
+) -> Result<(), CommitError>
+    requires loads { CanLoad board.old.base (length board.old.bytes) loading.now }
+    requires served { HasPolicy (Some round_kind) (map chooser policies.old.items) }
+    ensures { (shelf : Shelved) → (err : Taken) → Carries (generated_outcome number loading.now board.old) result
+        (world shelf (O.seen out.old) err board.old (map chooser policies.old.items))
+        (world shelf (O.seen out.new) err board.new (map chooser policies.new.items)) }
+{
+    match first_policy(policies.as_slice(), Kind::Round) {
+        Some(place) => put_generated(alloc, number, loading, out, board, &mut policies[place]),
         None => unreachable!(),
     }
 }

@@ -10,7 +10,7 @@ ghost use Rattle.c6x_cli_steps.specs.Policies.{KeepsPolicies};
 ghost use Rattle.c6x_cli_exits.specs.Statuses.{Keeps, Performs, Shows};
 ghost use Rattle.c6x_cli_steps.specs.Stores.{KeepsWriteFaults};
 ghost use Rattle.c6x_cli_steps.specs.World.{world};
-ghost use Rattle.c6x_cli_words.specs.Requests.{IsReading, is_storing, kind_asked};
+ghost use Rattle.c6x_cli_words.specs.Requests.{HasSmallNumber, IsReading, is_storing, kind_asked};
 
 use crate::commit::commit;
 use crate::prepare::prepare;
@@ -30,7 +30,8 @@ use std::alloc::{AllocError, Global};
 /// plan PLAN and stores the module as OUT; `dis IN` lists the code of the ELF file IN, and `show IN` tells what stands
 /// in it; `map PLAN` lays the plan's processes out on the board and lists where everything stands and what the tables
 /// hold; `run PLAN` also runs them to their ends, in turns of the first policy of the kind that `--policy` names, which
-/// begins with the number of `--seed`, and tells how each ended, after how many cycles and with which output. Statuses:
+/// begins with the number of `--seed`, and tells how each ended, after how many cycles and with which output; `gen
+/// NUMBER` does so with what the number generates, under the first policy of kind Round, and tells the sums. Statuses:
 /// 0 where all was done, 2 where the words have no reading or no policy is of the kind, 3 where a file is missing, 4
 /// where a rule is broken, 5 where a file could not be read, 6 where a sink, or the shelf in `as` and `ld`, could not
 /// write, and 7 where memory ran out. For each status but 0 one line is put on the error output.
@@ -97,6 +98,7 @@ fn request_of(
     policies: &Vec<Box<dyn Policy>>,
 ) -> Result<Option<Request>, AllocError>
     ensures served { (read : Option Request) → IsReading words.items read → IfOk result (λ request. request ≡ served read (map chooser policies.now.items)) }
+    ensures small { IfOk result HasSmallNumber }
     ensures there { IfOk result (λ request. HasPolicy (kind_asked request) (map chooser policies.now.items)) }
 {
     let read = parse_words(alloc, words)?;
@@ -116,7 +118,8 @@ fn perform<S: Shelf, O: Sink, E: Sink>(
     board: &mut Board,
     policies: &mut Vec<Box<dyn Policy>>,
 ) -> u8
-    requires { HasPolicy (kind_asked (Some request)) (map chooser policies.old.items) }
+    requires small { HasSmallNumber (Some request) }
+    requires there { HasPolicy (kind_asked (Some request)) (map chooser policies.old.items) }
     ensures { Performs (λ told. steps_of (Some request) told board.old) (is_storing (Some request)) (kind_asked (Some request)) result
         (world (S.seen shelf.old) (O.seen out.old) (E.seen err.old) board.old (map chooser policies.old.items))
         (world (S.seen shelf.new) (O.seen out.new) (E.seen err.new) board.new (map chooser policies.new.items)) }

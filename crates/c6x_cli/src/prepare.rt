@@ -1,14 +1,18 @@
-ghost use Rattle.std.specs.Prelude.{◌≡◌, true, false, None, Some, IfOk, length};
-ghost use Rattle.c6x_cli_words.specs.declared.request.Request.TheVariants.{Assemble as assemble_request, Dis as dis_request, Link as link_request, Map as map_request, Run as run_request, Show as show_request};
+ghost use Rattle.std.specs.Prelude.{◌≡◌, ◌≤◌, true, false, None, Some, IfOk, length};
+ghost use Rattle.c6x_cli_words.specs.declared.request.Request.TheVariants.{Assemble as assemble_request, Dis as dis_request, Generate as generate_request, Link as link_request, Map as map_request, Run as run_request, Show as show_request};
 ghost use Rattle.c6x_cli.specs.Meaning.{CanCommit, asks, is_store, outcome_of, request_steps};
-ghost use Rattle.c6x_cli_words.specs.Requests.{is_storing, kind_asked};
+ghost use Rattle.c6x_cli_words.specs.Requests.{HasSmallNumber, is_storing, kind_asked};
 ghost use Rattle.c6x_cli_loading.specs.Loading.{loading_steps};
 ghost use Rattle.c6x_cli_loading.specs.Placing.{CanLoad};
-ghost use Rattle.c6x_cli_steps.specs.Steps.{Prepares};
+ghost use Rattle.c6x_ports.specs.Shelf.{Shelved};
+ghost use Rattle.c6x_policy.specs.declared.kind.Kind.TheVariants.{Round as round_kind};
+ghost use Rattle.c6x_cli_gen.specs.Made.{generated_loading};
+ghost use Rattle.c6x_cli_steps.specs.Steps.{Decides, Prepares};
 
 use crate::prepared::Prepared;
 use c6x_base::Name;
 use c6x_board::Board;
+use c6x_cli_gen::prepare_generated;
 use c6x_cli_inputs::fetch_elf;
 use c6x_cli_loading::{Loading, prepare_loading};
 use c6x_cli_objects::{prepare_module, prepare_object};
@@ -25,6 +29,7 @@ pub fn prepare<S: Shelf>(
     shelf: &mut S,
     board: &Board,
 ) -> Result<Prepared, PrepareError>
+    requires { HasSmallNumber (Some request) }
     ensures prepares { Prepares (λ prepared. outcome_of prepared board.now) (λ told. request_steps request told board.now) (S.seen shelf.old) (S.seen shelf.new) result }
     ensures ready { IfOk result (CanCommit board.now) }
     ensures kind { IfOk result (λ prepared. is_store prepared ≡ is_storing (Some request)) }
@@ -44,6 +49,7 @@ pub fn prepare<S: Shelf>(
             seed,
             turns,
         } => { prepare_run(alloc, &plan, policy, seed, turns, shelf, board) }
+        Request::Generate { number } => prepare_gen(alloc, number, board),
     }
 }
 
@@ -159,4 +165,25 @@ fn prepare_run<S: Shelf>(
 {
     let loading = loading_on(alloc, shelf, plan, board)?;
     Ok(Prepared::Run(loading, policy, seed, turns))
+}
+
+/// Does all that `gen` decides before anything is written. It asks for no file.
+fn prepare_gen(alloc: Global, number: u32, board: &Board) -> Result<Prepared, PrepareError>
+    requires { number ≤ 999999 }
+    ensures prepares { (shelf : Shelved) → Prepares (λ prepared. outcome_of prepared board.now) (λ told. request_steps (generate_request number) told board.now) shelf shelf result }
+    ensures ready { IfOk result (CanCommit board.now) }
+    ensures kind { IfOk result (λ prepared. is_store prepared ≡ false) }
+    ensures asks { IfOk result (λ prepared. asks prepared ≡ Some round_kind) }
+{
+    let loading = generated_on(alloc, number, board)?;
+    Ok(Prepared::Generate(number, loading))
+}
+
+/// What a number comes to on this board.
+fn generated_on(alloc: Global, number: u32, board: &Board) -> Result<Loading, PrepareError>
+    requires { number ≤ 999999 }
+    ensures decides { Decides (λ loading. loading) (generated_loading number board.now.base (length board.now.bytes)) result }
+    ensures loads { IfOk result (CanLoad board.now.base (length board.now.bytes)) }
+{
+    prepare_generated(alloc, number, board.base(), board.len())
 }

@@ -15,6 +15,8 @@ pub enum Prepared {
     /// The plan that is to be run under the first policy of a kind, which begins with a seed, and whether its turns are
     /// told.
     Run(Loading, Kind, u32, bool),
+    /// What this number came to is to be run under the first policy of kind Round, and its sums told.
+    Generate(u32, Loading),
     /// These bytes are to be stored under the name.
     Store(Name, Bytes),
 }

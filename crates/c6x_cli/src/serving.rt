@@ -3,7 +3,7 @@ ghost use Rattle.std.specs.List.{position};
 ghost use Rattle.c6x_policy.specs.Chooser.{Chooser};
 ghost use Rattle.c6x_cli.specs.Meaning.{HasPolicy};
 ghost use Rattle.c6x_cli.specs.Serving.{served};
-ghost use Rattle.c6x_cli_words.specs.Requests.{kind_asked};
+ghost use Rattle.c6x_cli_words.specs.Requests.{HasSmallNumber, kind_asked};
 ghost use Rattle.c6x_cli_steps.specs.Policies.{first_of, same_kind};
 
 use c6x_cli_words::Request;
@@ -12,12 +12,25 @@ use c6x_ports::Policy;
 
 /// The request, where the policy that it asks for is there.
 pub fn serve(request: Request, policies: &Vec<Box<dyn Policy>>) -> Option<Request>
+    requires { HasSmallNumber (Some request) }
     ensures served { result ≡ served (Some request) (map chooser policies.now.items) }
+    ensures small { HasSmallNumber result }
     ensures there { HasPolicy (kind_asked result) (map chooser policies.now.items) }
 {
-    match request {
-        Request::Run { policy, .. } if first_policy(policies.as_slice(), policy).is_none() => None,
+    match kind_asked(&request) {
+        Some(kind) if first_policy(policies.as_slice(), kind).is_none() => None,
         _ => Some(request),
+    }
+}
+
+/// The kind of policies that a request asks.
+fn kind_asked(request: &Request) -> Option<Kind>
+    ensures { result ≡ kind_asked (Some request.now) }
+{
+    match request {
+        Request::Run { policy, .. } => Some(*policy),
+        Request::Generate { .. } => Some(Kind::Round),
+        _ => None,
     }
 }
 

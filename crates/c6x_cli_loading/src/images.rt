@@ -53,7 +53,7 @@ fn with_image<S: Shelf>(
 
 /// The modules with that of a file behind them, or the first rule that the file breaks.
 #[tactic(auto, using(crate::proofs::Taking::is_taken, crate::proofs::Taking::is_refused, crate::proofs::Taking::has_added))]
-fn take_image(
+pub fn take_image(
     alloc: Global,
     mut modules: Modules,
     image: &ModulePlan,

@@ -8,5 +8,7 @@ mod loading;
 mod placing;
 mod preparing;
 
+pub use images::take_image;
 pub use loading::Loading;
+pub use placing::place_plan;
 pub use preparing::prepare_loading;

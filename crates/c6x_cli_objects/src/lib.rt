@@ -7,6 +7,6 @@ mod object;
 mod objects;
 mod store;
 
-pub use linking::prepare_module;
-pub use object::prepare_object;
+pub use linking::{module_of, prepare_module};
+pub use object::{object_of, prepare_object};
 pub use store::store_file;

@@ -36,7 +36,7 @@ pub fn prepare_module<S: Shelf>(
 
 /// The module of these objects, or the first rule that they break.
 #[tactic(auto, unfolding(c6x_link::specs::Linked::linked))]
-fn module_of(
+pub fn module_of(
     alloc: Global,
     name: &Name,
     plan: &LinkPlan,

@@ -26,7 +26,7 @@ pub fn prepare_object<S: Shelf>(
 }
 
 /// The object of a text, or the first rule that the text breaks.
-fn object_of(alloc: Global, name: &Name, text: &[u8]) -> Result<File, PrepareError>
+pub fn object_of(alloc: Global, name: &Name, text: &[u8]) -> Result<File, PrepareError>
     requires { length text.now < 2 ^ 32 }
     ensures decides { Decides (λ object. object) (or_broken name.now (assembled text.now)) result }
     ensures tidy { IfOk result (IsTidy false) }

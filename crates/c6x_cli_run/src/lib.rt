@@ -8,4 +8,5 @@ mod starting;
 mod telling;
 
 pub use mapping::put_map;
-pub use running::put_run;
+pub use running::{put_run, run_to_ends};
+pub use starting::load_plan;

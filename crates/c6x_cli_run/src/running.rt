@@ -86,7 +86,7 @@ fn run_loaded<O: Sink>(
 }
 
 /// Begins the policy, and gives the processes turns of its choice up to the end of each.
-fn run_to_ends(
+pub fn run_to_ends(
     loading: &Loading,
     loaded: Loaded,
     seed: u32,

@@ -10,3 +10,4 @@ pub mod Taken
 pub mod Spelled
 pub mod Known
 pub mod Getters
+pub mod Numbers

@@ -7,12 +7,12 @@ use Rattle.std.specs.Str.{bytes_eq}
 use Rattle.std.proofs.lemmas.Slice.Eq.{bytes_eq-Decides}
 use Rattle.c6x_policy.specs.declared.kind.Kind.{Kind}
 use Rattle.c6x_policy.specs.declared.kind.Kind.TheVariants.{Round}
-use Rattle.c6x_cli_words.specs.Arguments.{Argument, plan_word, policy_words, seed_words, turns_word, AreSpelled, is_positional, kind_named, kinds_of, number_of, once_if, plans_of, seeds_of, times_told}
-use Rattle.c6x_cli_words.specs.Asked.{asked, is_bare, kind_in, request_told, seed_in, with_one, with_two}
+use Rattle.c6x_cli_words.specs.Arguments.{Argument, plan_word, policy_words, seed_words, turns_word, AreSpelled, generator_number, is_positional, kind_named, kinds_of, number_of, once_if, plans_of, seeds_of, times_told}
+use Rattle.c6x_cli_words.specs.Asked.{asked, generated_by, is_bare, kind_in, request_told, seed_in, with_file, with_one, with_two}
 use Rattle.c6x_cli_words.specs.Requests.{IsReading, IsVerbRun, Spells}
 use Rattle.c6x_cli_words.specs.Told.{AreFew, IsGood, IsSaid, Leads, Told, kinds_said, nothing_said, numbers_said, starts_plain}
 use Rattle.c6x_cli_words.specs.declared.request.Request.{Request}
-use Rattle.c6x_cli_words.specs.declared.request.Request.TheVariants.{Assemble, Dis, Link, Map, Run, Show}
+use Rattle.c6x_cli_words.specs.declared.request.Request.TheVariants.{Assemble, Dis, Generate, Link, Map, Run, Show}
 use Rattle.c6x_cli_words.proofs.Arguments.{no_words, same_head, same_tail}
 use Rattle.c6x_cli_words.proofs.Sound.{both}
 use Rattle.c6x_cli_words.proofs.Verbs.{all_files, asks_for, bare_words, first, request_of}
@@ -41,8 +41,8 @@ two_spelled verb one two words request is here there asks = elim (chosen (bytes_
   ]
 ]
 
-one_spelled : (verb file : List ℕ) (words : List (List ℕ)) (request : Request) → words ≡ verb ∷ file ∷ [] → is_positional file ≡ true → with_one verb file ≡ Some request → Spells words request
-one_spelled verb file words request is here asks = elim (chosen (bytes_eq verb (codes "dis")) (Dis file) (if bytes_eq verb (codes "show") then Some (Show file) else (if bytes_eq verb (codes "map") then Some (Map file) else None)) request asks) [
+file_spelled : (verb file : List ℕ) (words : List (List ℕ)) (request : Request) → words ≡ verb ∷ file ∷ [] → is_positional file ≡ true → with_file verb file ≡ Some request → Spells words request
+file_spelled verb file words request is here asks = elim (chosen (bytes_eq verb (codes "dis")) (Dis file) (if bytes_eq verb (codes "show") then Some (Show file) else (if bytes_eq verb (codes "map") then Some (Map file) else None)) request asks) [
   | inl p ↦ subst (Spells words) p.1 (record { is = same_verb verb (codes "dis") _ words is p.0; positional = here })
   | inr other ↦ elim (chosen (bytes_eq verb (codes "show")) (Show file) (if bytes_eq verb (codes "map") then Some (Map file) else None) request other) [
     | inl p ↦ subst (Spells words) p.1 (record { is = same_verb verb (codes "show") _ words is p.0; positional = here })
@@ -51,6 +51,26 @@ one_spelled verb file words request is here asks = elim (chosen (bytes_eq verb (
       | inr none ↦ never_none request none
     ]
   ]
+]
+
+number_spelled : (verb digits : List ℕ) (words : List (List ℕ)) (request : Request) (found : Option ℕ) → words ≡ verb ∷ digits ∷ [] → is_positional digits ≡ true → bytes_eq verb (codes "gen") ≡ true → generator_number digits ≡ found → option_map Generate found ≡ Some request → Spells words request
+number_spelled verb digits words request None is here gen none asks = never_none request asks
+number_spelled verb digits words request (Some number) is here gen some asks =
+    let same : Generate number ≡ request = cc in
+    subst (Spells words) same (record {
+      digits = digits;
+      one = record { is = same_verb verb (codes "gen") _ words is gen; positional = here };
+      spelled = some;
+    })
+
+picked : (test : Bool) (one rest : Option Request) (request : Request) → (if test then one else rest) ≡ Some request → ((test ≡ true) × (one ≡ Some request)) ⊎ (rest ≡ Some request)
+picked true one rest request is = inl (refl, is)
+picked false one rest request is = inr is
+
+one_spelled : (verb word : List ℕ) (words : List (List ℕ)) (request : Request) → words ≡ verb ∷ word ∷ [] → is_positional word ≡ true → with_one verb word ≡ Some request → Spells words request
+one_spelled verb word words request is here asks = elim (picked (bytes_eq verb (codes "gen")) (generated_by word) (with_file verb word) request asks) [
+  | inl p ↦ number_spelled verb word words request (generator_number word) is here p.0 refl p.1
+  | inr other ↦ file_spelled verb word words request is here other
 ]
 
 few_list : {A : Type 0} (xs : List A) → length xs ≤ 1 → xs ≡ option_to_list (first xs)

@@ -1,6 +1,6 @@
 -- What arguments ask for, verb by verb.
 use Rattle.std.proofs.Common.{◌≡◌, ◌≤◌, ℕ, Bool, true, false, List, [], ◌∷◌, length, refl, sym, ◌∙◌, ap, subst, arith}
-use Rattle.std.specs.Prelude.{Option, None, Some, codes, is_some, nat_lt, not, unwrap_or}
+use Rattle.std.specs.Prelude.{Option, None, Some, codes, is_some, nat_lt, not, option_map, unwrap_or}
 use Rattle.std.specs.Option.{option_to_list}
 use Rattle.std.specs.List.{list_all}
 use Rattle.c6x_policy.specs.declared.kind.Kind.{Kind}
@@ -10,7 +10,7 @@ use Rattle.c6x_cli_words.specs.Asked.{asked, is_bare}
 use Rattle.c6x_cli_words.specs.Requests.{IsVerbOne, IsVerbTwo, IsVerbRun, IsReading, Spells}
 use Rattle.c6x_cli_words.specs.Told.{AreFew}
 use Rattle.c6x_cli_words.specs.declared.request.Request.{Request}
-use Rattle.c6x_cli_words.specs.declared.request.Request.TheVariants.{Assemble, Dis, Link, Map, Run, Show}
+use Rattle.c6x_cli_words.specs.declared.request.Request.TheVariants.{Assemble, Dis, Generate, Link, Map, Run, Show}
 use Rattle.c6x_cli_words.proofs.Arguments.{no_words, one_spelling}
 use Rattle.c6x_cli_words.proofs.Sound.{both}
 use Rattle.c6x_cli_words.proofs.Text.{is_verb, verb_file}
@@ -89,6 +89,7 @@ asks_for words (Dis input) s = one_asks (codes "dis") input words (Dis input) re
 asks_for words (Show input) s = one_asks (codes "show") input words (Show input) refl s refl
 asks_for words (Map plan) s = one_asks (codes "map") plan words (Map plan) refl s refl
 asks_for words (Run plan policy seed turns) s = run_asks plan policy seed turns words s
+asks_for words (Generate number) s = one_asks (codes "gen") s.digits words (Generate number) refl s.one (ap (option_map Generate) s.spelled)
 
 -- words have one reading
 one_request : (words : List (List ℕ)) (r s : Request) → Spells words r → Spells words s → r ≡ s

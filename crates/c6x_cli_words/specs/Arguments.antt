@@ -21,6 +21,10 @@ kind_named word =
 unfoldable pub number_of : List ℕ → Option ℕ
 number_of word = number_in 0 4294967295 word
 
+-- The same of a number that `gen` takes.
+unfoldable pub generator_number : List ℕ → Option ℕ
+generator_number word = number_in 0 999999 word
+
 -- What one or two words behind `run` say: the plan's file; behind `--policy` the kind of the policy; behind `--seed` the
 -- number that it begins with; that turns are told.
 pub data Argument : Type 0 where

@@ -4,22 +4,28 @@ use Rattle.std.specs.List.{list_all}
 use Rattle.std.specs.Str.{bytes_eq}
 use Rattle.c6x_policy.specs.declared.kind.Kind.{Kind}
 use Rattle.c6x_policy.specs.declared.kind.Kind.TheVariants.{Round}
-use Rattle.c6x_cli_words.specs.Arguments.{is_positional, kind_named, number_of}
+use Rattle.c6x_cli_words.specs.Arguments.{generator_number, is_positional, kind_named, number_of}
 use Rattle.c6x_cli_words.specs.Told.{Told}
 use Rattle.c6x_cli_words.specs.declared.request.Request.{Request}
-use Rattle.c6x_cli_words.specs.declared.request.Request.TheVariants.{Assemble, Dis, Link, Map, Run, Show}
+use Rattle.c6x_cli_words.specs.declared.request.Request.TheVariants.{Assemble, Dis, Generate, Link, Map, Run, Show}
 
--- A verb with two files, and with one.
+-- A verb with two files, with one, and with a file or a number.
 abbrev pub with_two : List ℕ → List ℕ → List ℕ → Option Request
 with_two verb first second =
     if bytes_eq verb (codes "as") then Some (Assemble first second)
     else (if bytes_eq verb (codes "ld") then Some (Link first second) else None)
 
-abbrev pub with_one : List ℕ → List ℕ → Option Request
-with_one verb file =
+abbrev pub with_file : List ℕ → List ℕ → Option Request
+with_file verb file =
     if bytes_eq verb (codes "dis") then Some (Dis file)
     else (if bytes_eq verb (codes "show") then Some (Show file)
     else (if bytes_eq verb (codes "map") then Some (Map file) else None))
+
+abbrev pub generated_by : List ℕ → Option Request
+generated_by digits = option_map Generate (generator_number digits)
+
+abbrev pub with_one : List ℕ → List ℕ → Option Request
+with_one verb word = if bytes_eq verb (codes "gen") then generated_by word else with_file verb word
 
 -- No option is there.
 abbrev pub is_bare : Option Kind → Option ℕ → Bool → Bool

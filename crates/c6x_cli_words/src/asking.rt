@@ -2,7 +2,7 @@ ghost use Rattle.std.specs.Prelude.{◌≡◌, IfOk, map, option_map};
 ghost use Rattle.std.specs.List.{list_all};
 ghost use Rattle.clap.specs.Words.{found_of, rows_of};
 ghost use Rattle.c6x_cli_words.specs.Arguments.{is_positional};
-ghost use Rattle.c6x_cli_words.specs.Asked.{asked, kind_in, request_told, seed_in, with_one, with_two};
+ghost use Rattle.c6x_cli_words.specs.Asked.{asked, generated_by, kind_in, request_told, seed_in, with_file, with_one, with_two};
 ghost use Rattle.c6x_cli_words.specs.Found.{Shows};
 ghost use Rattle.c6x_cli_words.specs.Told.{Told};
 
@@ -13,6 +13,9 @@ use c6x_plan::number_in;
 use c6x_policy::Kind;
 use clap::ArgMatches;
 use std::alloc::{AllocError, Global};
+
+/// The greatest number that `gen` takes.
+const MOST_NUMBER: u32 = 999_999;
 
 /// The seed where the words give none.
 const FIRST_SEED: u32 = 1;
@@ -123,9 +126,28 @@ fn with_two(
     })
 }
 
-/// What a verb asks for with one.
-fn with_one(alloc: Global, verb: &str, file: &str) -> Result<Option<Request>, AllocError>
-    ensures { IfOk result (λ request. request ≡ with_one verb.now file.now) }
+/// What a verb asks for with a file or a number.
+fn with_one(alloc: Global, verb: &str, word: &str) -> Result<Option<Request>, AllocError>
+    ensures { IfOk result (λ request. request ≡ with_one verb.now word.now) }
+{
+    if verb == "gen" {
+        return Ok(generated_by(word));
+    }
+    with_file(alloc, verb, word)
+}
+
+/// What a number asks for.
+#[tactic(auto, unfolding(crate::specs::Arguments::generator_number))]
+fn generated_by(digits: &str) -> Option<Request>
+    ensures { result ≡ generated_by digits.now }
+{
+    let number = number_in(digits.as_bytes(), 0, MOST_NUMBER)?;
+    Some(Request::Generate { number })
+}
+
+/// What a verb asks for with one file.
+fn with_file(alloc: Global, verb: &str, file: &str) -> Result<Option<Request>, AllocError>
+    ensures { IfOk result (λ request. request ≡ with_file verb.now file.now) }
 {
     let file = Name::from_bytes(alloc, file.as_bytes())?;
     Ok(if verb == "dis" {

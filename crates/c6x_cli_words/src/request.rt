@@ -34,4 +34,8 @@ pub enum Request {
         seed: u32,
         turns: bool,
     },
+    /// Run what a number of at most six digits generates, under the first policy of kind Round, and tell the sums.
+    Generate {
+        number: u32,
+    },
 }

@@ -4,7 +4,11 @@ use Rattle.c6x_cli_exits.proofs.Performs.{completes, exits_performed, keeps_perf
 use Rattle.c6x_cli.proofs.Misread.{exits_misread, exits_unread, keeps_misread, policies_misread, policies_unread, shows_misread, shows_unread, stopped_misread, stopped_unread, usage_misread, usage_performed, usage_unread}
 use Rattle.c6x_cli.proofs.OutcomeKinds.{performs_read}
 use Rattle.c6x_cli.proofs.Relocated.{relocates}
+use Rattle.c6x_cli_words.specs.Requests.{HasSmallNumber}
 use Rattle.c6x_cli.proofs.dispatch.command.Goals as goal
+
+pub perform-requires-clause-small : goal.perform-requires-clause-small
+perform-requires-clause-small g c = subst HasSmallNumber c.in-Ok-Some.field-0-is c.in-Ok-Some.ensures.small
 
 pub returns-in-Ok-Some-clause-exits : goal.returns-in-Ok-Some-clause-exits
 returns-in-Ok-Some-clause-exits g c = λ read is told tells.
@@ -70,24 +74,24 @@ returns-in-Ok-None-clause-relocates g c = λ read is told tells zero.
     relocates _ told _ _ _ exits c.len.ensures.whole zero
 
 pub returns-in-Err-clause-exits : goal.returns-in-Err-clause-exits
-returns-in-Err-clause-exits g c = λ read is told tells. exits_unread _ told _ _ _ _ (stopped_unread _ _ _ _ _ _ _ c.report_error.ensures)
+returns-in-Err-clause-exits g c = λ read is told tells. exits_unread _ told _ _ _ _ (stopped_unread _ _ _ _ _ _ _ c.report_error-in-Err.ensures)
 
 pub returns-in-Err-clause-completes : goal.returns-in-Err-clause-completes
 returns-in-Err-clause-completes g c = λ read is told tells none.
-    completes _ _ _ _ (exits_unread _ told _ _ _ _ (stopped_unread _ _ _ _ _ _ _ c.report_error.ensures)) none
+    completes _ _ _ _ (exits_unread _ told _ _ _ _ (stopped_unread _ _ _ _ _ _ _ c.report_error-in-Err.ensures)) none
 
 pub returns-in-Err-clause-shows : goal.returns-in-Err-clause-shows
-returns-in-Err-clause-shows g c = λ read is. shows_unread _ _ _ _ (stopped_unread _ _ _ _ _ _ _ c.report_error.ensures)
+returns-in-Err-clause-shows g c = λ read is. shows_unread _ _ _ _ (stopped_unread _ _ _ _ _ _ _ c.report_error-in-Err.ensures)
 
 pub returns-in-Err-clause-usage : goal.returns-in-Err-clause-usage
 returns-in-Err-clause-usage g c = λ read is.
-    usage_unread _ _ _ _ (stopped_unread _ (g.S.Shelf.seen c.args.shelf.now) (g.O.Sink.seen c.args.out.now) _ _ c.args.board.now [] c.report_error.ensures)
+    usage_unread _ _ _ _ (stopped_unread _ (g.S.Shelf.seen c.args.shelf.now) (g.O.Sink.seen c.args.out.now) _ _ c.args.board.now [] c.report_error-in-Err.ensures)
 
 pub returns-in-Err-clause-keeps : goal.returns-in-Err-clause-keeps
 returns-in-Err-clause-keeps g c = λ read is. keeps_misread _ _ _ _ _ _ _
 
 pub returns-in-Err-clause-policies : goal.returns-in-Err-clause-policies
-returns-in-Err-clause-policies g c = λ read is. policies_unread _ _ _ _ (stopped_unread _ (g.S.Shelf.seen c.args.shelf.now) (g.O.Sink.seen c.args.out.now) _ _ c.args.board.now _ c.report_error.ensures)
+returns-in-Err-clause-policies g c = λ read is. policies_unread _ _ _ _ (stopped_unread _ (g.S.Shelf.seen c.args.shelf.now) (g.O.Sink.seen c.args.out.now) _ _ c.args.board.now _ c.report_error-in-Err.ensures)
 
 pub returns-in-Err-clause-loads : goal.returns-in-Err-clause-loads
 returns-in-Err-clause-loads g c = linked_loads
@@ -95,5 +99,5 @@ returns-in-Err-clause-loads g c = linked_loads
 pub returns-in-Err-clause-relocates : goal.returns-in-Err-clause-relocates
 returns-in-Err-clause-relocates g c = λ read is told tells zero.
     let exits = exits_unread _ told _ _ _ _
-    (stopped_unread _ (g.S.Shelf.seen c.args.shelf.now) (g.O.Sink.seen c.args.out.now) _ _ c.args.board.now [] c.report_error.ensures) in
+    (stopped_unread _ (g.S.Shelf.seen c.args.shelf.now) (g.O.Sink.seen c.args.out.now) _ _ c.args.board.now [] c.report_error-in-Err.ensures) in
     relocates _ told _ _ _ exits c.len.ensures.whole zero

@@ -4,7 +4,7 @@ use Rattle.c6x_cli.proofs.OutcomeKinds.{kind_of_outcome, asks_of_outcome, faults
 use Rattle.c6x_cli.proofs.dispatch.perform.Goals as goal
 
 pub finish-requires-clause-served : goal.finish-requires-clause-served
-finish-requires-clause-served g c = policy_of_kind _ _ _ c.in-Ok.ensures.asks c.requires
+finish-requires-clause-served g c = policy_of_kind _ _ _ c.in-Ok.ensures.asks c.requires.there
 
 pub returns-in-Ok : goal.returns-in-Ok
 returns-in-Ok g c =

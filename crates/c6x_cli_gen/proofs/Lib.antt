@@ -1,0 +1,3 @@
+pub mod Relocatable
+pub mod MadeBehind
+pub mod Totals
