@@ -37,7 +37,7 @@ pub sized_same : (text : List ℕ) (r : Result State AsmRule) (t : State) → si
 sized_same text (Ok s) t is = ap Ok (passed _ _ s t is).1
 sized_same text (Err rule) t is = absurd (cc)
 
-sized_small : (text : List ℕ) (r : Result State AsmRule) (t : State) → sized text r ≡ Ok t → is_large text t.sections t.symbols ≡ false
+pub sized_small : (text : List ℕ) (r : Result State AsmRule) (t : State) → sized text r ≡ Ok t → is_large text t.sections t.symbols ≡ false
 sized_small text (Ok s) t is = let p = passed _ _ s t is in subst (λ u. is_large text u.sections u.symbols ≡ false) p.1 p.0
 sized_small text (Err rule) t is = absurd (cc)
 

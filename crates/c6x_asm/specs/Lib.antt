@@ -5,4 +5,6 @@ pub mod Running
 pub mod Kept
 pub mod Reading
 pub mod Packets
+pub mod Groups
+pub mod Standing
 pub mod Meaning

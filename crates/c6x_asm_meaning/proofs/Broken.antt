@@ -1,9 +1,11 @@
 -- What a line is refused for is the lowest rule that it breaks.
-use Rattle.std.proofs.Common.{◌≡◌, ℕ, ◌<◌, ◌≤◌, ◌%◌, ◌==◌, ◌⊎◌, inl, inr, Bool, true, false, not, ◌||◌, List, [], ◌∷◌, ◌++◌, length, Option, Some, None, Result, Ok, Err, refl, sym, ◌∙◌, ap, subst, arith}
+use Rattle.std.proofs.Common.{◌≡◌, ℕ, ◌+◌, ◌<◌, ◌≤◌, ◌%◌, ◌==◌, ◌⊎◌, inl, inr, Bool, true, false, not, ◌||◌, List, [], ◌∷◌, ◌++◌, length, take, Option, Some, None, Result, Ok, Err, refl, sym, ◌∙◌, ap, subst, arith}
 use Rattle.std.specs.Prelude.{if◌then◌else◌}
+use Rattle.std.specs.Int.{to_le_bytes, w32}
 use Rattle.std.specs.Str.{bytes_eq}
 use Rattle.std.proofs.lemmas.Bool.{eqb-true, true≢false}
 use Rattle.std.proofs.lemmas.Bool.Decides.{nat_tests}
+use Rattle.std.proofs.lemmas.List.{get_or-set_same, length-replicate, length-set, length-take}
 use Rattle.std.proofs.lemmas.List.Quantifiers.{position-Some}
 use Rattle.std.proofs.lemmas.Slice.Eq.{bytes_eq-Decides}
 use Rattle.c6x_elf.specs.Abi.{SHN_ABS}
@@ -12,7 +14,7 @@ use Rattle.c6x_instr.specs.Spelling.{Spells}
 use Rattle.c6x_asm_lines.specs.declared.line.Line.{Line}
 use Rattle.c6x_asm_lines.specs.declared.line.Statement.{Statement}
 use Rattle.c6x_asm_lines.specs.declared.rule.AsmRule.{AsmRule}
-use Rattle.c6x_asm_lines.specs.declared.rule.AsmRule.TheVariants.{Syntax, UnknownWord, Operand, DuplicateLabel, NoSection}
+use Rattle.c6x_asm_lines.specs.declared.rule.AsmRule.TheVariants.{Syntax, UnknownWord, Operand, DuplicateLabel, NoSection, Large}
 use Rattle.c6x_asm_lines.specs.declared.word.Word.{Word}
 use Rattle.c6x_asm_lines.specs.Bytes.{bytes_at}
 use Rattle.c6x_asm_lines.specs.Grammar.{is_dotted}
@@ -28,22 +30,24 @@ use Rattle.c6x_asm_directives.specs.Keywords.{keyword_of}
 use Rattle.c6x_asm_directives.specs.Kinds.{kinds_from}
 use Rattle.c6x_asm_object.specs.declared.asm_section.AsmSection.{AsmSection}
 use Rattle.c6x_asm_object.specs.declared.definition.Definition.{Definition}
+use Rattle.c6x_asm_object.specs.declared.reloc_entry.RelocEntry.{RelocEntry}
 use Rattle.c6x_asm_object.specs.declared.symbol.Symbol.{Symbol}
 use Rattle.c6x_asm_object.specs.Kinds.{kind_named}
-use Rattle.c6x_asm_object.specs.Sections.{changed, is_zero, padding, section_at, with_align, with_number, with_zeros}
+use Rattle.c6x_asm_object.specs.Sections.{changed, is_zero, no_section, padding, section_at, with_align, with_number, with_zeros}
 use Rattle.c6x_asm_object.specs.Symbols.{no_symbol, symbol_at, symbol_name}
 use Rattle.c6x_asm_steps.specs.States.{State, definition_of, fault_of_definition, label_definition, label_fault, labelled, placed_at, placed_fault, relocated, section_fault}
 use Rattle.c6x_asm_steps.specs.Directives.{applied, common_section, given_place, has_room, in_section, with_alignment, with_field, with_fields, with_space}
 use Rattle.c6x_asm_steps.specs.Instructions.{chain_fault, ends_at, fails, instructed, instruction_fault, is_behind, place_fault, with_made, with_word, word_of}
 use Rattle.c6x_asm_steps.specs.Lines.{after_label, fault_of_label, is_numbers, numbers_fault, stated, stepped, with_keyword, with_statement, zero_fault}
 use Rattle.c6x_asm_steps.proofs.Results.{kept}
-use Rattle.c6x_asm_meaning.specs.Said.{Said, text_of_word}
+use Rattle.c6x_asm_meaning.specs.Said.{Saying, says_directive, says_instruction, Said, Says, directive_said, instruction_said, text_of_word}
 use Rattle.c6x_asm_meaning.specs.Sections.{behind_lines, is_among, last_end, lines_in}
 use Rattle.c6x_asm_meaning.specs.Symbols.{all_named, place_given}
-use Rattle.c6x_asm_meaning.specs.Breaking.{BreaksDirective, unknown, wrong_operands, numbers_of_zeros, misplaced, BreaksInstruction, wrong_words, wrong_place, wordless, BreaksLabel, label_again, label_nowhere, BreaksStatement, wrong_kinds, by_directive, by_instruction, EndsHere, GoesNowhere, GoesTo, HasPlace, IsLabel, MisplacesDirective, filling_nowhere, placed_again, MisplacesInstruction, joins_nothing, word_nowhere, word_of_zeros, word_between, PutsNumbers, bytes_so_far, fills, placed_name}
+use Rattle.c6x_asm_meaning.specs.Breaking.{BreaksDirective, unknown, wrong_operands, numbers_of_zeros, misplaced, BreaksInstruction, wrong_words, wrong_place, wordless, BreaksLabel, label_again, label_nowhere, BreaksStatement, wrong_kinds, by_directive, by_instruction, EndsHere, GoesNowhere, GoesTo, HasPlace, IsLabel, MisplacesDirective, filling_nowhere, placed_again, MisplacesInstruction, joins_nothing, word_nowhere, word_of_zeros, word_between, Overfills, PutsNumbers, bytes_so_far, fills, most_bytes, numbers_room, placed_name, room_for}
 use Rattle.c6x_asm_meaning.proofs.Firsts.{not_among}
+use Rattle.c6x_asm_meaning.proofs.Grown.{number_grown}
 use Rattle.c6x_asm_meaning.proofs.Fulfilled.{IsWhole}
-use Rattle.c6x_asm_meaning.proofs.Least.{Finds, Holds, IsLowest, IsRoomy, IsUnion, Judges, finds_lowest, judges_fails, judges_same, judges_then, roomy_if, roomy_judges, roomy_then}
+use Rattle.c6x_asm_meaning.proofs.Least.{Finds, Holds, IsLowest, IsRoomy, IsUnion, Judges, finds_lowest, judges_fails, judges_limit, judges_same, judges_then, roomy_if, roomy_judges, roomy_then}
 use Rattle.c6x_asm_meaning.proofs.Lined.{IsHere, IsMeant, IsThere, name_of, there}
 use Rattle.c6x_asm_meaning.proofs.Stepped.{label_meant}
 use Rattle.c6x_asm_meaning.proofs.Telling.{neither, other_bytes, same_bytes, told_of}
@@ -193,27 +197,82 @@ nowhere_only text said label directive none other (placed_again {name} p h) = ab
     differ' : Some name ≡ None → ⊥
     differ' is = cc
 
-filling_judged : (text : List ℕ) (said : List Said) (label : Option Word) (directive : Directive) (sections : List AsmSection) (now : Option ℕ) (here : Option (List ℕ)) (next : ℕ → Result State AsmRule) → behind_lines text None said ≡ here → IsHere text sections now here → fills directive ≡ true → placed_name text directive ≡ None → ((i : ℕ) → IsRoomy (next i)) → Judges (MisplacesDirective text said label directive) (in_section now next)
+-- what would make a section too long
+abbrev Overfull : List ℕ → List Said → Directive → Type 0
+Overfull text said directive = Overfills text said (says_directive directive)
+
+filling_judged : (text : List ℕ) (said : List Said) (label : Option Word) (directive : Directive) (sections : List AsmSection) (now : Option ℕ) (here : Option (List ℕ)) (next : ℕ → Result State AsmRule) → behind_lines text None said ≡ here → IsHere text sections now here → fills directive ≡ true → placed_name text directive ≡ None → ((i : ℕ) → IsThere text sections i (behind_lines text None said) → IsRoomy (Overfull text said directive) (next i)) → Judges (Overfull text said directive) (MisplacesDirective text said label directive) (in_section now next)
 filling_judged text said label directive sections None None next is at affirms none roomy = inr (filling_nowhere affirms is, nowhere_only text said label directive none)
 filling_judged text said label directive sections None (Some name) next is at affirms none roomy = absurd at
 filling_judged text said label directive sections (Some i) None next is at affirms none roomy = absurd at
 filling_judged text said label directive sections (Some i) (Some name) next is at affirms none roomy =
-    roomy_judges (MisplacesDirective text said label directive) (next i) (roomy i) (here_only text said label directive name none is)
+    roomy_judges (Overfull text said directive) (MisplacesDirective text said label directive) (next i) (roomy i (record { name = name; is = is; inside = at.0; named = at.1 })) (here_only text said label directive name none is)
 
-field_roomy : (text : List ℕ) (i size : ℕ) (s : State) (field : Field) → IsRoomy (with_field text i size s field)
+-- a section has the bytes of its lines
+size_there : (text : List ℕ) (said : List Said) (sections : List AsmSection) (now : Option ℕ) (i : ℕ) → IsMeant text said sections now → (at : IsThere text sections i (behind_lines text None said)) → (section_at sections i).size ≡ bytes_so_far text said at.name
+size_there text said sections now i meant at = (meant.each i at.inside).is.size ∙ ap (bytes_so_far text said) at.named
+
+no_room : (s : State) (i count : ℕ) → has_room s i count ≡ false → most_bytes < (section_at s.sections i).size + count
+no_room s i count full = grind (arith, nat_tests)
+
+-- a section that may not grow by what a line takes
+overfilled : (text : List ℕ) (said : List Said) (s : State) (i count : ℕ) (saying : Saying) → IsMeant text said s.sections s.now → (at : IsThere text s.sections i (behind_lines text None said)) → room_for (section_at s.sections i).size saying ≡ count → has_room s i count ≡ false → Overfills text said saying
+overfilled text said s i count saying meant at takes full =
+    let size = size_there text said s.sections s.now i meant at in
+    (at.name, at.is, subst (λ n. most_bytes < n + room_for n saying) size (subst (λ n. most_bytes < (section_at s.sections i).size + n) (sym takes) (no_room s i count full)))
+
+field_roomy : (L : Type 0) (text : List ℕ) (i size : ℕ) (s : State) (field : Field) → (has_room s i size ≡ false → L) → IsRoomy L (with_field text i size s field)
 unfolding with_field
-field_roomy text i size s field =
+field_roomy L text i size s field full =
     let entry = relocated text s.symbols (section_at s.sections i).size field.relocation in
-    roomy_if (has_room s i size) (record s { symbols = entry.0; sections = changed s.sections i (with_number size field.bits entry.1) })
+    roomy_if L (has_room s i size) (record s { symbols = entry.0; sections = changed s.sections i (with_number size field.bits entry.1) }) full
 
-fields_roomy : (text : List ℕ) (i size : ℕ) (s : State) (fields : List Field) → IsRoomy (with_fields text i size s fields)
-fields_roomy text i size s [] = tt
-fields_roomy text i size s (field ∷ fields) = roomy_then (with_field text i size s field) (λ t. with_fields text i size t fields) (field_roomy text i size s field) (λ t. fields_roomy text i size t fields)
+-- a section with one number more
+record HasNumber (i size : ℕ) (s t : State) : Type 0 where
+  count : length t.sections ≡ length s.sections
+  grown : (section_at t.sections i).size ≤ (section_at s.sections i).size + size
+
+same_state : (r : Result State AsmRule) (a b : State) → r ≡ Ok a → r ≡ Ok b → a ≡ b
+same_state r a b first second = cc
+
+field_grown : (text : List ℕ) (i size : ℕ) (s : State) (field : Field) (t : State) → i < length s.sections → with_field text i size s field ≡ Ok t → HasNumber i size s t
+unfolding with_field
+field_grown text i size s field t inside is = by (has_room s i size) is
+  where
+    p : AsmSection
+    p = section_at s.sections i
+
+    entry : List Symbol × Option RelocEntry
+    entry = relocated text s.symbols p.size field.relocation
+
+    q : AsmSection
+    q = with_number size field.bits entry.1 p
+
+    by : (b : Bool) → (if b then Ok (record s { symbols = entry.0; sections = changed s.sections i (with_number size field.bits entry.1) }) else Err Large) ≡ Ok t → HasNumber i size s t
+    by true is =
+        let made : State = record s { symbols = entry.0; sections = changed s.sections i (with_number size field.bits entry.1) } in
+        let sections : changed s.sections i (with_number size field.bits entry.1) ≡ t.sections = ap (λ (u : State). u.sections) (same_state (Ok made) made t refl is) in
+        let here : section_at t.sections i ≡ q = ap (λ ps. section_at ps i) (sym sections) ∙ get_or-set_same s.sections i q no_section inside in
+        let size_now : q.size ≡ p.size + length (take size (to_le_bytes w32 field.bits)) = (number_grown size field.bits entry.1 p).size in
+        let few = length-take size (to_le_bytes w32 field.bits) in
+        let there : (section_at t.sections i).size ≡ q.size = ap (λ (r : AsmSection). r.size) here in
+        record { count = ap length (sym sections) ∙ length-set s.sections i q; grown = omega (arith, size_now, few, there) }
+    by false is = absurd (cc)
+
+fields_roomy : (L : Type 0) (text : List ℕ) (i size : ℕ) (s : State) (fields : List Field) → i < length s.sections → (most_bytes < (section_at s.sections i).size + numbers_room size fields → L) → IsRoomy L (with_fields text i size s fields)
+fields_roomy L text i size s [] inside full = tt
+fields_roomy L text i size s (field ∷ fields) inside full =
+    roomy_then L (with_field text i size s field) (λ t. with_fields text i size t fields)
+    (field_roomy L text i size s field (λ none. let over = no_room s i size none in full (omega arith)))
+    (λ t is. let more = field_grown text i size s field t inside is in
+    let count = more.count in
+    let grown = more.grown in
+    fields_roomy L text i size t fields (omega arith) (λ over. full (omega arith)))
 
 -- one that gives a place
-given_judged : (text : List ℕ) (said : List Said) (label : Option Word) (directive : Directive) (s : State) (word : Word) (place : Definition) → fills directive ≡ false → placed_name text directive ≡ Some (text_of_word text word) → IsAfter text said label s → Judges (MisplacesDirective text said label directive) (given_place text s word place (placed_fault text s.symbols word))
+given_judged : (text : List ℕ) (said : List Said) (label : Option Word) (directive : Directive) (s : State) (word : Word) (place : Definition) → fills directive ≡ false → placed_name text directive ≡ Some (text_of_word text word) → IsAfter text said label s → Judges (Overfull text said directive) (MisplacesDirective text said label directive) (given_place text s word place (placed_fault text s.symbols word))
 given_judged text said label directive s word place denies gives is =
-    subst (λ fault. Judges (MisplacesDirective text said label directive) (given_place text s word place fault)) (sym (placed_by text is.listed is.told s.symbols word is.are))
+    subst (λ fault. Judges (Overfull text said directive) (MisplacesDirective text said label directive) (given_place text s word place fault)) (sym (placed_by text is.listed is.told s.symbols word is.are))
     (by (is.told.definition (text_of_word text word)) refl)
   where
     unplaced : is.told.definition (text_of_word text word) ≡ None → (name : List ℕ) → placed_name text directive ≡ Some name → HasPlace text said name ⊎ IsLabel text label name → ⊥
@@ -237,22 +296,24 @@ given_judged text said label directive s word place denies gives is =
     least other (filling_nowhere f g) = absurd (true≢false (sym f ∙ denies))
     least other (placed_again p has) = omega arith
 
-    by : (o : Option Definition) → is.told.definition (text_of_word text word) ≡ o → Judges (MisplacesDirective text said label directive) (given_place text s word place (fault_of_definition o))
+    by : (o : Option Definition) → is.told.definition (text_of_word text word) ≡ o → Judges (Overfull text said directive) (MisplacesDirective text said label directive) (given_place text s word place (fault_of_definition o))
     by None none = clear none
     by (Some there) some = inr (placed_again gives (is.taken (text_of_word text word) (λ none. cc)), least)
 
 -- a directive by its place
-directive_judged : (text : List ℕ) (said : List Said) (label : Option Word) (directive : Directive) (s : State) → IsAfter text said label s → Judges (MisplacesDirective text said label directive) (applied text s directive)
+directive_judged : (text : List ℕ) (said : List Said) (label : Option Word) (directive : Directive) (s : State) → IsAfter text said label s → Judges (Overfull text said directive) (MisplacesDirective text said label directive) (applied text s directive)
 unfolding applied
 directive_judged text said label (Section at len) s is = free_directive text said label (Section at len) refl refl
 directive_judged text said label (Numbers size fields) s is =
-    filling_judged text said label (Numbers size fields) s.sections s.now (behind_lines text None said) (λ i. with_fields text i size s fields) refl is.meant.here refl refl (λ i. fields_roomy text i size s fields)
+    filling_judged text said label (Numbers size fields) s.sections s.now (behind_lines text None said) (λ i. with_fields text i size s fields) refl is.meant.here refl refl
+    (λ i at. fields_roomy (Overfull text said (Numbers size fields)) text i size s fields at.inside (λ over. (at.name, at.is, subst (λ n. most_bytes < n + numbers_room size fields) (size_there text said s.sections s.now i is.meant at) over)))
 directive_judged text said label (Space count) s is =
     filling_judged text said label (Space count) s.sections s.now (behind_lines text None said) (with_space count s) refl is.meant.here refl refl
-    (λ i. roomy_if (has_room s i count) (record s { sections = changed s.sections i (with_zeros count) }))
+    (λ i at. roomy_if (Overfull text said (Space count)) (has_room s i count) (record s { sections = changed s.sections i (with_zeros count) }) (λ full. overfilled text said s i count (says_directive (Space count)) is.meant at (length-replicate {A = ℕ} count 0) full))
 directive_judged text said label (Align align) s is =
     filling_judged text said label (Align align) s.sections s.now (behind_lines text None said) (with_alignment align s) refl is.meant.here refl refl
-    (λ i. roomy_if (has_room s i (padding (section_at s.sections i).size align)) (record s { sections = changed s.sections i (with_align align) }))
+    (λ i at. roomy_if (Overfull text said (Align align)) (has_room s i (padding (section_at s.sections i).size align)) (record s { sections = changed s.sections i (with_align align) })
+    (λ full. overfilled text said s i (padding (section_at s.sections i).size align) (says_directive (Align align)) is.meant at (length-replicate {A = ℕ} (padding (section_at s.sections i).size align) 0) full))
 directive_judged text said label (SetAttribute attribute word) s is = free_directive text said label (SetAttribute attribute word) refl refl
 directive_judged text said label (Common word size align near) s is =
     given_judged text said label (Common word size align near) s word (record { section = common_section near; value = align; size = size }) refl refl is
@@ -263,9 +324,9 @@ err_same : {T : Type 0} (r : Result T AsmRule) (a b : AsmRule) → r ≡ Err a �
 err_same r a b first second = cc
 
 -- a result says itself which rule is broken
-judges_self : {T : Type 0} (r : Result T AsmRule) → Judges (λ rule. r ≡ Err rule) r
-judges_self (Ok x) = λ rule is. cc
-judges_self (Err rule) = inr (refl, λ other is. let e : number_of rule ≡ number_of other = ap number_of (err_same (Err rule) rule other refl is) in omega arith)
+judges_self : {T : Type 0} (L : Type 0) (r : Result T AsmRule) → Judges L (λ rule. r ≡ Err rule) r
+judges_self L (Ok x) = λ rule is. cc
+judges_self L (Err rule) = inr (refl, λ other is. let e : number_of rule ≡ number_of other = ap number_of (err_same (Err rule) rule other refl is) in omega arith)
 
 finds_self : (o : Option AsmRule) → Finds (λ rule. o ≡ Some rule) o
 finds_self None = λ rule is. cc
@@ -317,27 +378,34 @@ Placing text said label keyword statement rule = (directive : Directive) × (dir
 same_directive : (r : Result Directive AsmRule) (a b : Directive) → r ≡ Ok a → r ≡ Ok b → a ≡ b
 same_directive r a b first second = cc
 
-placing_judged : (text : List ℕ) (said : List Said) (label : Option Word) (keyword : Keyword) (statement : Statement) (directive : Directive) (s : State) → directive_by text keyword statement.operands ≡ Ok directive → IsAfter text said label s → Judges (Placing text said label keyword statement) (applied text s directive)
+placing_judged : (text : List ℕ) (said : List Said) (label : Option Word) (keyword : Keyword) (statement : Statement) (directive : Directive) (s : State) → directive_by text keyword statement.operands ≡ Ok directive → IsAfter text said label s → Judges (Overfull text said directive) (Placing text said label keyword statement) (applied text s directive)
 placing_judged text said label keyword statement directive s read is =
-    judges_same (MisplacesDirective text said label directive) (Placing text said label keyword statement) (applied text s directive)
+    judges_same (Overfull text said directive) (MisplacesDirective text said label directive) (Placing text said label keyword statement) (applied text s directive)
     (λ rule breaks. (directive, read, breaks))
     (λ rule breaks. subst (λ d. MisplacesDirective text said label d rule) (same_directive (directive_by text keyword statement.operands) breaks.0 directive breaks.1 read) breaks.2)
     (directive_judged text said label directive s is)
 
-keyword_judged : (text : List ℕ) (said : List Said) (label : Option Word) (o : Option Keyword) (statement : Statement) (s : State) → IsAfter text said label s → Judges (BreaksDirective text said label o statement) (with_keyword text o statement.operands s)
-keyword_judged text said label None statement s is = inr (unknown, λ other here. least other here)
+-- a statement that would make its section too long
+abbrev pub IsOverfull : List ℕ → List Said → Option Statement → Type 0
+IsOverfull text said o = (saying : Saying) × Says text o saying × Overfills text said saying
+
+keyword_judged : (text : List ℕ) (said : List Said) (label : Option Word) (o : Option Keyword) (statement : Statement) (s : State) → is_dotted statement.head.word.class ≡ true → keyword_of (text_of_word text statement.head.word) ≡ o → IsAfter text said label s → Judges (IsOverfull text said (Some statement)) (BreaksDirective text said label o statement) (with_keyword text o statement.operands s)
+keyword_judged text said label None statement s dotted named is = inr (unknown, λ other here. least other here)
   where
     least : (other : AsmRule) → BreaksDirective text said label None statement other → number_of UnknownWord ≤ number_of other
     least other unknown = omega arith
-keyword_judged text said label (Some keyword) statement s is =
+keyword_judged text said label (Some keyword) statement s dotted named is =
     let read = directive_by text keyword statement.operands in
     let fault = numbers_fault keyword s.sections s.now in
     let Zeros : AsmRule → Type 0 = One Operand (PutsNumbers text said keyword) in
     let Words : AsmRule → Type 0 = λ rule. read ≡ Err rule in
     let zeros = zeros_found text said keyword s.sections s.now is.meant in
-    judges_then (Both Zeros Words) (Placing text said label keyword statement) (BreaksDirective text said label (Some keyword) statement) (fails fault read) (λ directive. applied text s directive)
-    (judges_fails Zeros Words (Both Zeros Words) fault read (both_union Zeros Words) zeros (judges_self read))
-    (λ directive ok. placing_judged text said label keyword statement directive s (kept fault read directive ok).1 is)
+    let Limit : Type 0 = IsOverfull text said (Some statement) in
+    judges_then Limit (Both Zeros Words) (Placing text said label keyword statement) (BreaksDirective text said label (Some keyword) statement) (fails fault read) (λ directive. applied text s directive)
+    (judges_fails Limit Zeros Words (Both Zeros Words) fault read (both_union Zeros Words) zeros (judges_self Limit read))
+    (λ directive ok.
+    let reads = (kept fault read directive ok).1 in
+    judges_limit (Overfull text said directive) Limit (Placing text said label keyword statement) (applied text s directive) (λ over. (says_directive directive, directive_said dotted named reads, over)) (placing_judged text said label keyword statement directive s reads is))
     (λ rule breaks. first rule breaks)
     (λ directive ok rule breaks. misplaced breaks.1 (λ puts. holds fault (kept fault read directive ok).0 zeros puts) breaks.2)
     (λ rule breaks. split rule fault zeros breaks)
@@ -482,9 +550,9 @@ Wordless text statement = One Operand ((made : RelocatableOp) × (instruction_of
 same_made : (r : Result RelocatableOp AsmRule) (a b : RelocatableOp) → r ≡ Ok a → r ≡ Ok b → a ≡ b
 same_made r a b first second = cc
 
-word_judged : (text : List ℕ) (number : ℕ) (statement : Statement) (made : RelocatableOp) (o : Option ℕ) (s : State) (i : ℕ) → instruction_of text statement.head statement.operands ≡ Ok made → word_of statement.head.condition made.op ≡ o → Judges (Wordless text statement) (with_word text number statement.head.chained made o s i)
+word_judged : (text : List ℕ) (said : List Said) (number : ℕ) (statement : Statement) (made : RelocatableOp) (o : Option ℕ) (s : State) (i : ℕ) → is_dotted statement.head.word.class ≡ false → IsMeant text said s.sections s.now → IsThere text s.sections i (behind_lines text None said) → instruction_of text statement.head statement.operands ≡ Ok made → word_of statement.head.condition made.op ≡ o → Judges (IsOverfull text said (Some statement)) (Wordless text statement) (with_word text number statement.head.chained made o s i)
 unfolding word_of
-word_judged text number statement made None s i read none =
+word_judged text said number statement made None s i plain meant at read none =
     inr (finds_one Operand _ (
       made,
       read,
@@ -492,13 +560,16 @@ word_judged text number statement made None s i read none =
           let some : word_of statement.head.condition made.op ≡ Some word = encoded-spelled (record { condition = statement.head.condition; op = made.op; chained = false }) word spells in
           cc,
     ))
-word_judged text number statement made (Some word) s i read spelled =
+word_judged text said number statement made (Some word) s i plain meant at read spelled =
+    let head = statement.head in
     let entry = relocated text s.symbols (section_at s.sections i).size made.relocation in
-    roomy_judges (Wordless text statement) (with_word text number statement.head.chained made (Some word) s i)
-    (roomy_if (has_room s i 4) _)
+    let spells = spells-encoded (record { condition = head.condition; op = made.op; chained = false }) word spelled in
+    let saying : Saying = says_instruction head.chained word made.relocation in
+    roomy_judges (IsOverfull text said (Some statement)) (Wordless text statement) (with_word text number head.chained made (Some word) s i)
+    (roomy_if (IsOverfull text said (Some statement)) (has_room s i 4) _ (λ full. (saying, instruction_said plain read spells, overfilled text said s i 4 saying meant at refl full)))
     (finds_none Operand _ (λ none.
-    let same = same_made (instruction_of text statement.head statement.operands) none.0 made none.1 read in
-    none.2 word (subst (λ (m : RelocatableOp). Spells (record { condition = statement.head.condition; op = m.op; chained = false }) word) (sym same) (spells-encoded (record { condition = statement.head.condition; op = made.op; chained = false }) word spelled))))
+    let same = same_made (instruction_of text head statement.operands) none.0 made none.1 read in
+    none.2 word (subst (λ (m : RelocatableOp). Spells (record { condition = head.condition; op = m.op; chained = false }) word) (sym same) spells)))
 
 -- where lines go somewhere
 somewhere : (sections : List AsmSection) (now : Option ℕ) → place_fault sections now ≡ None → (i : ℕ) × (now ≡ Some i)
@@ -510,26 +581,28 @@ both_none None b is = (refl, is)
 both_none (Some a) None is = absurd (cc)
 both_none (Some a) (Some b) is = absurd (cc)
 
-instruction_judged : (text : List ℕ) (said : List Said) (number : ℕ) (statement : Statement) (s : State) → IsMeant text said s.sections s.now → Judges (BreaksInstruction text said statement) (instructed text number statement.head statement.operands s)
+instruction_judged : (text : List ℕ) (said : List Said) (number : ℕ) (statement : Statement) (s : State) → is_dotted statement.head.word.class ≡ false → IsMeant text said s.sections s.now → Judges (IsOverfull text said (Some statement)) (BreaksInstruction text said statement) (instructed text number statement.head statement.operands s)
 unfolding instructed
-instruction_judged text said number statement s meant =
+instruction_judged text said number statement s plain meant =
     let head = statement.head in
     let read = instruction_of text head statement.operands in
     let fault = instruction_fault s head in
     let Place : AsmRule → Type 0 = MisplacesInstruction text said head.chained in
     let Words : AsmRule → Type 0 = λ rule. read ≡ Err rule in
     let place = misplaced_found text said head.chained s.sections s.now meant in
-    judges_then (Both Place Words) (Wordless text statement) (BreaksInstruction text said statement) (fails fault read) (λ made. with_made text number head s made)
-    (judges_fails Place Words (Both Place Words) fault read (both_union Place Words) place (judges_self read))
+    let Limit : Type 0 = IsOverfull text said (Some statement) in
+    judges_then Limit (Both Place Words) (Wordless text statement) (BreaksInstruction text said statement) (fails fault read) (λ made. with_made text number head s made)
+    (judges_fails Limit Place Words (Both Place Words) fault read (both_union Place Words) place (judges_self Limit read))
     (λ made ok. let both = kept fault read made ok in made_judged made both.1 (somewhere s.sections s.now (both_none (chain_fault head.chained (is_behind s.sections s.now)) (place_fault s.sections s.now) both.0).1))
     (λ rule breaks. first rule breaks)
     (λ made ok rule breaks. subst (BreaksInstruction text said statement) (sym breaks.0) (wordless breaks.1.1 (holds fault (kept fault read made ok).0 place) breaks.1.2))
     (λ rule breaks. split rule fault place breaks)
   where
-    made_judged : (made : RelocatableOp) → instruction_of text statement.head statement.operands ≡ Ok made → (i : ℕ) × (s.now ≡ Some i) → Judges (Wordless text statement) (with_made text number statement.head s made)
+    made_judged : (made : RelocatableOp) → instruction_of text statement.head statement.operands ≡ Ok made → (i : ℕ) × (s.now ≡ Some i) → Judges (IsOverfull text said (Some statement)) (Wordless text statement) (with_made text number statement.head s made)
     made_judged made read at =
-        subst (λ now. Judges (Wordless text statement) (in_section now (λ i. with_word text number statement.head.chained made (word_of statement.head.condition made.op) s i))) (sym at.1)
-        (word_judged text number statement made (word_of statement.head.condition made.op) s at.0 read refl)
+        let here = there text s.sections at.0 (behind_lines text None said) (subst (λ now. IsHere text s.sections now (behind_lines text None said)) at.1 meant.here) in
+        subst (λ now. Judges (IsOverfull text said (Some statement)) (Wordless text statement) (in_section now (λ i. with_word text number statement.head.chained made (word_of statement.head.condition made.op) s i))) (sym at.1)
+        (word_judged text said number statement made (word_of statement.head.condition made.op) s at.0 plain meant here read refl)
 
     holds : (fault : Option AsmRule) → fault ≡ None → Finds (MisplacesInstruction text said statement.head.chained) fault → (rule : AsmRule) → MisplacesInstruction text said statement.head.chained rule → ⊥
     holds None is finds = finds
@@ -550,30 +623,30 @@ instruction_judged text said number statement s meant =
         inr (made, ap (λ f. fails f (instruction_of text statement.head statement.operands)) (clear fault finds none) ∙ read, (refl, (made, read, never)))
 
 -- a statement
-inner_judged : (text : List ℕ) (said : List Said) (number : ℕ) (label : Option Word) (statement : Statement) (s : State) → IsAfter text said label s → Judges (λ rule. ((is_dotted statement.head.word.class ≡ true) × BreaksDirective text said label (keyword_of (text_of_word text statement.head.word)) statement rule) ⊎ ((is_dotted statement.head.word.class ≡ false) × BreaksInstruction text said statement rule)) (with_statement text number statement s)
+inner_judged : (text : List ℕ) (said : List Said) (number : ℕ) (label : Option Word) (statement : Statement) (s : State) → IsAfter text said label s → Judges (IsOverfull text said (Some statement)) (λ rule. ((is_dotted statement.head.word.class ≡ true) × BreaksDirective text said label (keyword_of (text_of_word text statement.head.word)) statement rule) ⊎ ((is_dotted statement.head.word.class ≡ false) × BreaksInstruction text said statement rule)) (with_statement text number statement s)
 inner_judged text said number label statement s is = by (is_dotted statement.head.word.class) refl
   where
-    by : (b : Bool) → is_dotted statement.head.word.class ≡ b → Judges (λ rule. ((is_dotted statement.head.word.class ≡ true) × BreaksDirective text said label (keyword_of (text_of_word text statement.head.word)) statement rule) ⊎ ((is_dotted statement.head.word.class ≡ false) × BreaksInstruction text said statement rule)) (if b then with_keyword text (keyword_of (bytes_at text statement.head.word.at statement.head.word.len)) statement.operands s else instructed text number statement.head statement.operands s)
+    by : (b : Bool) → is_dotted statement.head.word.class ≡ b → Judges (IsOverfull text said (Some statement)) (λ rule. ((is_dotted statement.head.word.class ≡ true) × BreaksDirective text said label (keyword_of (text_of_word text statement.head.word)) statement rule) ⊎ ((is_dotted statement.head.word.class ≡ false) × BreaksInstruction text said statement rule)) (if b then with_keyword text (keyword_of (bytes_at text statement.head.word.at statement.head.word.len)) statement.operands s else instructed text number statement.head statement.operands s)
     by true dotted =
-        judges_same (BreaksDirective text said label (keyword_of (text_of_word text statement.head.word)) statement) _ (with_keyword text (keyword_of (bytes_at text statement.head.word.at statement.head.word.len)) statement.operands s)
+        judges_same (IsOverfull text said (Some statement)) (BreaksDirective text said label (keyword_of (text_of_word text statement.head.word)) statement) _ (with_keyword text (keyword_of (bytes_at text statement.head.word.at statement.head.word.len)) statement.operands s)
         (λ rule breaks. inl (dotted, breaks)) (λ rule breaks. pick rule dotted breaks)
-        (keyword_judged text said label (keyword_of (bytes_at text statement.head.word.at statement.head.word.len)) statement s is)
+        (keyword_judged text said label (keyword_of (bytes_at text statement.head.word.at statement.head.word.len)) statement s dotted refl is)
       where
         pick : (rule : AsmRule) → is_dotted statement.head.word.class ≡ true → ((is_dotted statement.head.word.class ≡ true) × BreaksDirective text said label (keyword_of (text_of_word text statement.head.word)) statement rule) ⊎ ((is_dotted statement.head.word.class ≡ false) × BreaksInstruction text said statement rule) → BreaksDirective text said label (keyword_of (text_of_word text statement.head.word)) statement rule
         pick rule dotted (inl here) = here.1
         pick rule dotted (inr here) = absurd (true≢false (sym dotted ∙ here.0))
     by false plain =
-        judges_same (BreaksInstruction text said statement) _ (instructed text number statement.head statement.operands s)
+        judges_same (IsOverfull text said (Some statement)) (BreaksInstruction text said statement) _ (instructed text number statement.head statement.operands s)
         (λ rule breaks. inr (plain, breaks)) (λ rule breaks. pick rule plain breaks)
-        (instruction_judged text said number statement s is.meant)
+        (instruction_judged text said number statement s plain is.meant)
       where
         pick : (rule : AsmRule) → is_dotted statement.head.word.class ≡ false → ((is_dotted statement.head.word.class ≡ true) × BreaksDirective text said label (keyword_of (text_of_word text statement.head.word)) statement rule) ⊎ ((is_dotted statement.head.word.class ≡ false) × BreaksInstruction text said statement rule) → BreaksInstruction text said statement rule
         pick rule plain (inl here) = absurd (true≢false (sym here.0 ∙ plain))
         pick rule plain (inr here) = here.1
 
-statement_judged : (text : List ℕ) (said : List Said) (number : ℕ) (label : Option Word) (statement : Statement) (s : State) → IsAfter text said label s → Judges (BreaksStatement text said label statement) (fails (kinds_from text None statement.operands) (with_statement text number statement s))
+statement_judged : (text : List ℕ) (said : List Said) (number : ℕ) (label : Option Word) (statement : Statement) (s : State) → IsAfter text said label s → Judges (IsOverfull text said (Some statement)) (BreaksStatement text said label statement) (fails (kinds_from text None statement.operands) (with_statement text number statement s))
 statement_judged text said number label statement s is =
-    judges_fails (λ rule. kinds_from text None statement.operands ≡ Some rule) _ (BreaksStatement text said label statement) (kinds_from text None statement.operands) (with_statement text number statement s)
+    judges_fails (IsOverfull text said (Some statement)) (λ rule. kinds_from text None statement.operands ≡ Some rule) _ (BreaksStatement text said label statement) (kinds_from text None statement.operands) (with_statement text number statement s)
     (record { first = λ rule wrong. wrong_kinds wrong; second = second; split = split })
     (finds_self (kinds_from text None statement.operands)) (inner_judged text said number label statement s is)
   where
@@ -590,11 +663,11 @@ statement_judged text said number label statement s is =
 abbrev pub BreaksParts : List ℕ → List Said → Line → AsmRule → Type 0
 BreaksParts text said line rule = BreaksLabel text said line.label rule ⊎ ((statement : Statement) × (line.statement ≡ Some statement) × BreaksStatement text said line.label statement rule)
 
-stated_judged : (text : List ℕ) (said : List Said) (number : ℕ) (label : Option Word) (o : Option Statement) (s : State) → IsAfter text said label s → Judges (λ rule. (statement : Statement) × (o ≡ Some statement) × BreaksStatement text said label statement rule) (stated text number o s)
+stated_judged : (text : List ℕ) (said : List Said) (number : ℕ) (label : Option Word) (o : Option Statement) (s : State) → IsAfter text said label s → Judges (IsOverfull text said o) (λ rule. (statement : Statement) × (o ≡ Some statement) × BreaksStatement text said label statement rule) (stated text number o s)
 unfolding stated
 stated_judged text said number label None s is = λ rule breaks. let e : None ≡ Some breaks.0 = breaks.1 in cc
 stated_judged text said number label (Some statement) s is =
-    judges_same (BreaksStatement text said label statement) _ (fails (kinds_from text None statement.operands) (with_statement text number statement s))
+    judges_same (IsOverfull text said (Some statement)) (BreaksStatement text said label statement) _ (fails (kinds_from text None statement.operands) (with_statement text number statement s))
     (λ rule breaks. (statement, refl, breaks))
     (λ rule breaks. subst (λ st. BreaksStatement text said label st rule) (same breaks.0 breaks.1) breaks.2)
     (statement_judged text said number label statement s is)
@@ -603,10 +676,10 @@ stated_judged text said number label (Some statement) s is =
     same other is = cc
 
 -- a line that has a reading
-pub stepped_judged : (text : List ℕ) (said : List Said) (number : ℕ) (line : Line) (s : State) → IsMeant text said s.sections s.now → IsWhole text said s → Judges (BreaksParts text said line) (stepped text number line s)
+pub stepped_judged : (text : List ℕ) (said : List Said) (number : ℕ) (line : Line) (s : State) → IsMeant text said s.sections s.now → IsWhole text said s → Judges (IsOverfull text said line.statement) (BreaksParts text said line) (stepped text number line s)
 unfolding stepped
 stepped_judged text said number line s meant whole =
-    judges_fails (BreaksLabel text said line.label) (λ rule. (statement : Statement) × (line.statement ≡ Some statement) × BreaksStatement text said line.label statement rule) (BreaksParts text said line) (fault_of_label text s line.label) (stated text number line.statement (after_label text s line.label))
+    judges_fails (IsOverfull text said line.statement) (BreaksLabel text said line.label) (λ rule. (statement : Statement) × (line.statement ≡ Some statement) × BreaksStatement text said line.label statement rule) (BreaksParts text said line) (fault_of_label text s line.label) (stated text number line.statement (after_label text s line.label))
     (record { first = λ rule is. inl is; second = λ rule is. inr is; split = λ rule is. is })
     (label_finds text said line.label s meant whole)
     (stated_judged text said number line.label line.statement (after_label text s line.label) (after text said line.label s meant whole))

@@ -27,7 +27,7 @@ aligned_push : (align : ℕ) (lines : List Said) (l : Said) → aligned align (l
 aligned_push align [] l = refl
 aligned_push align (x ∷ lines) l = aligned_push (raised align x.saying) lines l
 
-words_push : (lines : List Said) (l : Said) → words_in (lines ++ l ∷ []) ≡ words_in lines ++ word_said l.number l.saying
+pub words_push : (lines : List Said) (l : Said) → words_in (lines ++ l ∷ []) ≡ words_in lines ++ word_said l.number l.saying
 words_push [] l = append-nil (word_said l.number l.saying)
 words_push (x ∷ lines) l = ap (λ ws. word_said x.number x.saying ++ ws) (words_push lines l) ∙ sym (append_assoc (word_said x.number x.saying) (words_in lines) (word_said l.number l.saying))
 

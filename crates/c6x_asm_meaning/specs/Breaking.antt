@@ -1,6 +1,6 @@
 -- Which rules a line breaks, by its own words and by what the lines before it say (docs/ASSEMBLY.md, "Rules"): A2 to A5,
 -- A7 and A8. A1 is asked of the text, A6 of packets, A9 of the object so far.
-use Rattle.std.specs.Prelude.{◌≡◌, ℕ, ◌%◌, ◌≤◌, ◌⊎◌, Bool, true, false, List, [], ◌∷◌, ◌++◌, length, Option, Some, None, Ok, Err}
+use Rattle.std.specs.Prelude.{◌≡◌, ℕ, ◌+◌, ◌%◌, ◌<◌, ◌≤◌, ◌⊎◌, Bool, true, false, List, [], ◌∷◌, ◌++◌, length, Option, Some, None, Ok, Err}
 use Rattle.c6x_instr.specs.Spelling.{Spells}
 use Rattle.c6x_asm_lines.specs.declared.lexeme.Lexeme.{Lexeme}
 use Rattle.c6x_asm_lines.specs.declared.line.Line.{Line}
@@ -11,6 +11,7 @@ use Rattle.c6x_asm_lines.specs.declared.word.Word.{Word}
 use Rattle.c6x_asm_lines.specs.Grammar.{is_dotted}
 use Rattle.c6x_asm_lines.specs.Rules.{number_of}
 use Rattle.c6x_asm_grammar.specs.Spelling.{SpellsLine}
+use Rattle.c6x_asm_operands.specs.declared.relocatable.Field.{Field}
 use Rattle.c6x_asm_operands.specs.declared.relocatable.RelocatableOp.{RelocatableOp}
 use Rattle.c6x_asm_instr.specs.Instructions.{instruction_of}
 use Rattle.c6x_asm_directives.specs.declared.directive.Directive.{Directive}
@@ -22,8 +23,8 @@ use Rattle.c6x_asm_directives.specs.Kinds.{kinds_from}
 use Rattle.c6x_asm_object.specs.Kinds.{kind_named}
 use Rattle.c6x_asm_object.specs.Sections.{is_zero}
 use Rattle.c6x_asm_steps.specs.Lines.{is_numbers}
-use Rattle.c6x_asm_meaning.specs.Said.{Said, text_of_word}
-use Rattle.c6x_asm_meaning.specs.Sections.{behind_lines, contents, last_end, lines_in}
+use Rattle.c6x_asm_meaning.specs.Said.{Said, Saying, says_directive, text_of_word}
+use Rattle.c6x_asm_meaning.specs.Sections.{behind_lines, contents, last_end, lines_in, size_at}
 use Rattle.c6x_asm_meaning.specs.Symbols.{place_given}
 
 -- lines go to the section with this name
@@ -116,3 +117,20 @@ pub data BreakNone : List ℕ → List Said → List (List Lexeme) → List Said
 pub record IsLowestOf (text : List ℕ) (before : List Said) (lexemes : List Lexeme) (rule : AsmRule) : Type 0 where
   pub breaks : BreaksLine text before lexemes rule
   pub least : (other : AsmRule) → BreaksLine text before lexemes other → number_of rule ≤ number_of other
+
+-- the most bytes of a section
+abbrev pub most_bytes : ℕ
+most_bytes = 1048576
+
+abbrev pub numbers_room : ℕ → List Field → ℕ
+numbers_room size [] = 0
+numbers_room size (field ∷ fields) = size + numbers_room size fields
+
+-- how many bytes a line takes at a place of its section
+abbrev pub room_for : ℕ → Saying → ℕ
+room_for place (says_directive (Numbers size fields)) = numbers_room size fields
+room_for place saying = size_at place saying
+
+-- the section that a line goes to would have too many bytes with it
+abbrev pub Overfills : List ℕ → List Said → Saying → Type 0
+Overfills text before saying = (name : List ℕ) × GoesTo text before name × (most_bytes < bytes_so_far text before name + room_for (bytes_so_far text before name) saying)
