@@ -1,0 +1,15 @@
+mod Texts
+mod Words
+mod Steps
+mod Read
+mod Small
+mod Alone
+mod Openings
+mod Grown
+mod Apart
+mod Library
+mod LibraryEnd
+mod Names
+mod App
+mod AppEnd
+mod Sources

@@ -1,0 +1,97 @@
+-- The words of the instructions.
+use Rattle.std.proofs.Common.{◌≡◌, ℕ, false, Some, refl}
+use Rattle.c6x_base.specs.declared.side.Side.TheVariants.{A, B}
+use Rattle.c6x_instr.specs.declared.access.Access.TheVariants.{Ldw, Stw}
+use Rattle.c6x_instr.specs.declared.arith.Arith.TheVariants.{Add}
+use Rattle.c6x_instr.specs.declared.cond.Cond.TheVariants.{Always}
+use Rattle.c6x_instr.specs.declared.first.First.TheVariants.{Register as FirstRegister}
+use Rattle.c6x_instr.specs.declared.op.Op.TheVariants.{Two as TwoOp, Callp as CallpOp, BranchRegNop as BranchRegNopOp, Nop as NopOp, Short as ShortOp, Long as LongOp}
+use Rattle.c6x_instr.specs.declared.unit_kind.UnitKind.TheVariants.{L}
+use Rattle.c6x_encoding.specs.Encoded.{encoded, joined_fields, l_code}
+use Rattle.c6x_asm_steps.specs.Instructions.{word_of}
+
+-- `CALLP .S2 name,B3`, whose field its relocation fills
+abbrev pub CALL : ℕ
+CALL = 0x10000012
+
+-- `STW .D2T2 B3,*B15--[2]` and `LDW .D2T2 *++B15[2],B3`
+abbrev pub PUSH_B3 : ℕ
+PUSH_B3 = 0x01BC54F6
+
+abbrev pub POP_B3 : ℕ
+POP_B3 = 0x01BC52E6
+
+-- the same of B14
+abbrev pub PUSH_B14 : ℕ
+PUSH_B14 = 0x073C54F6
+
+abbrev pub POP_B14 : ℕ
+POP_B14 = 0x073C52E6
+
+-- `NOP 4`
+abbrev pub WAIT : ℕ
+WAIT = 0x6000
+
+-- `BNOP .S2 B3,5`
+abbrev pub GO_BACK : ℕ
+GO_BACK = 0x008CA362
+
+-- `LDW .D2T2 *+B14(%dsbt_index),B14`
+abbrev pub LOAD_TABLE : ℕ
+LOAD_TABLE = 0x0700006E
+
+-- `LDW .D2T1 *+B14(count),A5`
+abbrev pub LOAD_COUNT : ℕ
+LOAD_COUNT = 0x0280006C
+
+-- `ADD .L1 A4,A5,A4`
+abbrev pub ADD_COUNT : ℕ
+ADD_COUNT = 0x02148078
+
+-- `STW .D2T1 A4,*+B14(count)`
+abbrev pub STORE_COUNT : ℕ
+STORE_COUNT = 0x0200007C
+
+pub call_word : word_of Always (CallpOp B 0) ≡ Some CALL
+unfolding word_of encoded joined_fields
+call_word = refl
+
+pub push_b3_word : word_of Always (ShortOp Stw B B 10 2 15 3) ≡ Some PUSH_B3
+unfolding word_of encoded joined_fields
+push_b3_word = refl
+
+pub pop_b3_word : word_of Always (ShortOp Ldw B B 9 2 15 3) ≡ Some POP_B3
+unfolding word_of encoded joined_fields
+pop_b3_word = refl
+
+pub push_b14_word : word_of Always (ShortOp Stw B B 10 2 15 14) ≡ Some PUSH_B14
+unfolding word_of encoded joined_fields
+push_b14_word = refl
+
+pub pop_b14_word : word_of Always (ShortOp Ldw B B 9 2 15 14) ≡ Some POP_B14
+unfolding word_of encoded joined_fields
+pop_b14_word = refl
+
+pub wait_word : word_of Always (NopOp 4) ≡ Some WAIT
+unfolding word_of encoded joined_fields
+wait_word = refl
+
+pub go_back_word : word_of Always (BranchRegNopOp false 3 5) ≡ Some GO_BACK
+unfolding word_of encoded joined_fields
+go_back_word = refl
+
+pub load_table_word : word_of Always (LongOp Ldw B false 0 14) ≡ Some LOAD_TABLE
+unfolding word_of encoded joined_fields
+load_table_word = refl
+
+pub load_count_word : word_of Always (LongOp Ldw A false 0 5) ≡ Some LOAD_COUNT
+unfolding word_of encoded joined_fields
+load_count_word = refl
+
+pub add_count_word : word_of Always (TwoOp L Add A false (FirstRegister 4) 5 4) ≡ Some ADD_COUNT
+unfolding word_of encoded joined_fields l_code
+add_count_word = refl
+
+pub store_count_word : word_of Always (LongOp Stw A false 0 4) ≡ Some STORE_COUNT
+unfolding word_of encoded joined_fields
+store_count_word = refl

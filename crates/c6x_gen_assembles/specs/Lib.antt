@@ -1,0 +1,2 @@
+pub mod Assembles
+pub mod Lines
