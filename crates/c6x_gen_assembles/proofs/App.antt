@@ -22,7 +22,8 @@ use Rattle.c6x_gen_assembles.proofs.Openings.{given, global_place, global_step, 
 use Rattle.c6x_gen_assembles.proofs.Read.{end_of, one_more}
 use Rattle.c6x_gen_assembles.proofs.Steps.{call_relocation, call_step, in_code, IsName}
 use Rattle.c6x_gen_assembles.proofs.Texts.{app_lines}
-use Rattle.c6x_gen_assembles.proofs.Words.{CALL, call_word, GO_BACK, go_back_word, POP_B3, pop_b3_word, PUSH_B3, push_b3_word, WAIT, wait_word}
+use Rattle.c6x_gen_assembles.specs.Words.{CALL, GO_BACK, POP_B3, PUSH_B3, WAIT}
+use Rattle.c6x_gen_assembles.proofs.Words.{call_word, go_back_word, pop_b3_word, push_b3_word, wait_word}
 
 abbrev pub text : ℕ → List ℕ
 text n = text_of (app_lines n)
@@ -97,11 +98,11 @@ pub found_behind : (text : List ℕ) (at : ℕ) (lines others : List (List Part)
 found_behind text at [] others found = found
 found_behind text at (line ∷ lines) others found = found_behind text (at + line_length line) lines others found.1
 
-found_before : (text : List ℕ) (at : ℕ) (lines others : List (List Part)) → LinesAreAt text at (lines ++ others) → LinesAreAt text at lines
+pub found_before : (text : List ℕ) (at : ℕ) (lines others : List (List Part)) → LinesAreAt text at (lines ++ others) → LinesAreAt text at lines
 found_before text at [] others found = tt
 found_before text at (line ∷ lines) others found = (found.0, found_before text (at + line_length line) lines others found.1)
 
-call_found : (text : List ℕ) (at n count line : ℕ) → line < count → LinesAreAt text at (call_lines n count) → AreAt text (end_of at (call_lines n line)) (call_line n line)
+pub call_found : (text : List ℕ) (at n count line : ℕ) → line < count → LinesAreAt text at (call_lines n count) → AreAt text (end_of at (call_lines n line)) (call_line n line)
 unfolding each_below
 call_found text at n zero line below found = absurd (omega arith)
 call_found text at n (suc last) line below found =

@@ -108,8 +108,10 @@ app_apart n =
 packets : (n : ℕ) → bad_line None ((returned n).section ∷ []) ≡ None
 packets n = rw (none_bad (returned n).section.instructions (returned_made n).grown.alone) refl
 
+pub app_found : (n : ℕ) → AreFound n
+app_found n = (text_read (app_lines n) (app_apart n)).found
+
 -- the object: the code and the names
 pub app_assembled : (n : ℕ) → assembled (text n) ≡ Ok (file_of (text n) ((returned n).section ∷ []) (returned n).names)
 app_assembled n =
-    let are = app_apart n in
-    text_assembled (section_line (codes ".text")) (naming_lines ++ (call_lines n (calls n) ++ closing_lines)) (state_of (returned n)) are (after_all n (text_read (app_lines n) are).found) (packets n)
+    text_assembled (section_line (codes ".text")) (naming_lines ++ (call_lines n (calls n) ++ closing_lines)) (state_of (returned n)) (app_apart n) (after_all n (app_found n)) (packets n)

@@ -12,4 +12,8 @@ mod LibraryEnd
 mod Names
 mod App
 mod AppEnd
+mod LibraryObject
+mod Pushed
+mod Callees
+mod AppObject
 mod Sources

@@ -20,7 +20,8 @@ use Rattle.c6x_gen_assembles.proofs.Grown.{grown_light, IsGrown, IsMade, lined_s
 use Rattle.c6x_gen_assembles.proofs.Openings.{given, global_place, global_step, in_text, push_b14_step, section_step, text_section}
 use Rattle.c6x_gen_assembles.proofs.Read.{end_of}
 use Rattle.c6x_gen_assembles.proofs.Steps.{add_count_step, count_relocation, go_back_step, in_code, index_relocation, IsCode, IsName, load_count_step, load_place, load_table_step, pop_b14_step, store_count_step, store_place, wait_step}
-use Rattle.c6x_gen_assembles.proofs.Words.{ADD_COUNT, add_count_word, GO_BACK, go_back_word, LOAD_COUNT, load_count_word, LOAD_TABLE, load_table_word, POP_B14, pop_b14_word, PUSH_B14, push_b14_word, STORE_COUNT, store_count_word, WAIT, wait_word}
+use Rattle.c6x_gen_assembles.specs.Words.{ADD_COUNT, GO_BACK, LOAD_COUNT, LOAD_TABLE, POP_B14, PUSH_B14, STORE_COUNT, WAIT}
+use Rattle.c6x_gen_assembles.proofs.Words.{add_count_word, go_back_word, load_count_word, load_table_word, pop_b14_word, push_b14_word, store_count_word, wait_word}
 
 abbrev pub text : List ℕ → List ℕ → List ℕ
 text name digits = text_of (library_lines name digits)

@@ -27,14 +27,14 @@ use Rattle.c6x_gen_assembles.proofs.Read.{text_assembled}
 use Rattle.c6x_gen_assembles.proofs.Steps.{IsName, load_place}
 
 -- the names behind the code: the function and the counter
-abbrev named : List ℕ → List ℕ → Symbol
+abbrev pub named : List ℕ → List ℕ → Symbol
 named name digits = function name digits (in_text begun.size)
 
 -- where the counter is named first
 abbrev pub counter_place : List ℕ → List ℕ → ℕ
 counter_place name digits = load_place (place name digits 5)
 
-names_after_first_wait : (name digits : List ℕ) → (after_first_wait name digits).names ≡ named name digits ∷ []
+pub names_after_first_wait : (name digits : List ℕ) → (after_first_wait name digits).names ≡ named name digits ∷ []
 unfolding after_first_wait after_table after_push relocated
 names_after_first_wait name digits = refl
 
@@ -42,28 +42,28 @@ names_after_first_wait name digits = refl
 abbrev pub IsApart : List ℕ → Type 0
 IsApart name = bytes_eq name (codes "count") ≡ false
 
-names_after_load : (name digits : List ℕ) → AreFound name digits → IsApart name → (after_load name digits).names ≡ named name digits ∷ count_symbol (counter_place name digits) None ∷ []
+pub names_after_load : (name digits : List ℕ) → AreFound name digits → IsApart name → (after_load name digits).names ≡ named name digits ∷ count_symbol (counter_place name digits) None ∷ []
 unfolding after_load relocated interned symbol_at fresh
 names_after_load name digits found other = rw (names_after_first_wait name digits, found.1.0.1.0, found.1.1.1.1.1.0.1.1.1.0, other) refl
 
-names_after_add : (name digits : List ℕ) → AreFound name digits → IsApart name → (after_add name digits).names ≡ named name digits ∷ count_symbol (counter_place name digits) None ∷ []
+pub names_after_add : (name digits : List ℕ) → AreFound name digits → IsApart name → (after_add name digits).names ≡ named name digits ∷ count_symbol (counter_place name digits) None ∷ []
 unfolding after_add after_second_wait relocated
 names_after_add name digits found other = names_after_load name digits found other
 
-names_after_store : (name digits : List ℕ) → AreFound name digits → IsApart name → (after_store name digits).names ≡ named name digits ∷ count_symbol (counter_place name digits) None ∷ []
+pub names_after_store : (name digits : List ℕ) → AreFound name digits → IsApart name → (after_store name digits).names ≡ named name digits ∷ count_symbol (counter_place name digits) None ∷ []
 unfolding after_store relocated interned symbol_at
 names_after_store name digits found other =
     rw (names_after_add name digits found other, found.1.0.1.0, found.1.1.1.1.1.0.1.1.1.0, found.1.1.1.1.1.1.1.1.0.1.1.1.1.0, other) refl
 
-names_after_back : (name digits : List ℕ) → AreFound name digits → IsApart name → (after_back name digits).names ≡ named name digits ∷ count_symbol (counter_place name digits) None ∷ []
+pub names_after_back : (name digits : List ℕ) → AreFound name digits → IsApart name → (after_back name digits).names ≡ named name digits ∷ count_symbol (counter_place name digits) None ∷ []
 unfolding after_back after_pop relocated
 names_after_back name digits found other = names_after_store name digits found other
 
 -- the section of the counter, before and behind its number
-abbrev data_begun : List ℕ → List ℕ → AsmSection
+abbrev pub data_begun : List ℕ → List ℕ → AsmSection
 data_begun name digits = data_section (place name digits 11)
 
-pub data_of : List ℕ → List ℕ → ℕ → AsmSection
+unfoldable pub data_of : List ℕ → List ℕ → ℕ → AsmSection
 data_of name digits count = with_number 4 count None (data_begun name digits)
 
 begun_light : (name digits : List ℕ) → IsLight (data_begun name digits)
@@ -117,8 +117,8 @@ count_taken name digits count found is other number =
     (record { name = name; is = found.1.0.1.0; other = other }) found.1.1.1.1.1.0.1.1.1.0 number.is number.least number.most number.whole)
     (two_small (text name digits) code (data_of name digits count) (symbols_of name digits) 2 (grown_light 9 code (after_back_made name digits is).grown (omega arith)) (data_light name digits count) (two_names name digits (Some (record { section = 2; value = 0; size = 0 })) is) (omega arith)) (omega arith)
 
-all_lined : (name digits : List ℕ) (count : ℕ) → AreFound name digits → IsName name → IsApart name → IsCount digits count → after_lines (text name digits) 1 nothing (lines_at 0 (library_lines name digits)) ≡ Ok (in_data (after_back name digits).section (data_of name digits count) (symbols_of name digits))
-all_lined name digits count found is other number =
+all_taken : (name digits : List ℕ) (count : ℕ) → AreFound name digits → IsName name → IsApart name → IsCount digits count → after_lines (text name digits) 1 nothing (lines_at 0 (library_lines name digits)) ≡ Ok (in_data (after_back name digits).section (data_of name digits count) (symbols_of name digits))
+all_taken name digits count found is other number =
     rw (
       section_taken name digits found,
       global_taken name digits found is,
@@ -142,9 +142,11 @@ packets : (name digits : List ℕ) (count : ℕ) → IsName name → bad_line No
 packets name digits count is =
     rw (none_bad (after_back name digits).section.instructions (after_back_made name digits is).grown.alone, data_none_bad name digits count, none_bad [] tt) refl
 
+pub library_found : (name digits : List ℕ) (count : ℕ) → IsName name → IsCount digits count → AreFound name digits
+library_found name digits count is number = (text_read (library_lines name digits) (lines_apart (library_lines name digits) (lines_stand name digits count is number))).found
+
 -- the object: the code, the counter, and their two names
 pub library_assembled : (name digits : List ℕ) (count : ℕ) → IsName name → IsApart name → IsCount digits count → assembled (text name digits) ≡ Ok (file_of (text name digits) ((after_back name digits).section ∷ data_of name digits count ∷ []) (symbols_of name digits))
 library_assembled name digits count is other number =
-    let are = lines_apart (library_lines name digits) (lines_stand name digits count is number) in
-    let state = in_data (after_back name digits).section (data_of name digits count) (symbols_of name digits) in
-    text_assembled (section_line (codes ".text")) (library_behind name digits) state are (all_lined name digits count (text_read (library_lines name digits) are).found is other number) (packets name digits count is)
+    text_assembled (section_line (codes ".text")) (library_behind name digits) (in_data (after_back name digits).section (data_of name digits count) (symbols_of name digits))
+    (lines_apart (library_lines name digits) (lines_stand name digits count is number)) (all_taken name digits count (library_found name digits count is number) is other number) (packets name digits count is)

@@ -1,5 +1,5 @@
 -- The names of the libraries may stand as symbols, and so may `start`.
-use Rattle.std.proofs.Common.{◌≡◌, ℕ, suc, zero, ◌<◌, nat_le, Bool, true, false, not, ◌&&◌, length, codes, refl, sym, ◌∙◌, ap, arith, ⊎_elim}
+use Rattle.std.proofs.Common.{◌≡◌, ℕ, suc, zero, ◌<◌, nat_le, eqb, Bool, true, false, not, ◌&&◌, ◌||◌, length, codes, refl, sym, ◌∙◌, ap, arith, ⊎_elim}
 use Rattle.std.proofs.lemmas.Bool.{and_parts, cases_eq, true≢false}
 use Rattle.std.specs.Fmt.{digits}
 use Rattle.std.specs.Str.{bytes_eq}
@@ -24,11 +24,11 @@ is_good library =
     is_word (library_name library)
     && (is_other (class_of (library_name library)) && (nat_le (length (library_name library)) 64 && not (bytes_eq (library_name library) (codes "count"))))
 
-all_below : ℕ → (ℕ → Bool) → Bool
+pub all_below : ℕ → (ℕ → Bool) → Bool
 all_below zero p = true
 all_below (suc n) p = p n && all_below n p
 
-from_all : (n : ℕ) (p : ℕ → Bool) (k : ℕ) → all_below n p ≡ true → k < n → p k ≡ true
+pub from_all : (n : ℕ) (p : ℕ → Bool) (k : ℕ) → all_below n p ≡ true → k < n → p k ≡ true
 unfolding all_below
 from_all zero p k all below = absurd (omega arith)
 from_all (suc n) p k all below =
@@ -41,7 +41,7 @@ all_good : all_below 12 is_good ≡ true
 unfolding all_below is_good class_of register_of digits
 all_good = refl
 
-none : (b : Bool) → not b ≡ true → b ≡ false
+pub none : (b : Bool) → not b ≡ true → b ≡ false
 none true is = sym is
 none false is = refl
 
@@ -64,3 +64,20 @@ library_apart library below =
 pub start_named : IsName (codes "start")
 unfolding class_of register_of
 start_named = record { token = refl; class = refl; short = refl }
+
+-- no two libraries have the same name
+differ_from : ℕ → ℕ → Bool
+differ_from a b = eqb a b || not (bytes_eq (library_name a) (library_name b))
+
+all_differ : all_below 12 (λ a. all_below 12 (differ_from a)) ≡ true
+unfolding all_below differ_from digits
+all_differ = refl
+
+pub libraries_differ : (a b : ℕ) → a < 12 → b < 12 → eqb a b ≡ false → bytes_eq (library_name a) (library_name b) ≡ false
+unfolding differ_from
+libraries_differ a b below other differs =
+    let one = from_all 12 (differ_from a) b (from_all 12 (λ c. all_below 12 (differ_from c)) a all_differ below) other in
+    none (bytes_eq (library_name a) (library_name b)) (ap (λ t. t || not (bytes_eq (library_name a) (library_name b))) (sym differs) ∙ one)
+
+pub start_apart : (library : ℕ) → bytes_eq (codes "start") (library_name library) ≡ false
+start_apart library = refl

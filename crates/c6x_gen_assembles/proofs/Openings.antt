@@ -29,7 +29,8 @@ use Rattle.c6x_asm.specs.Reading.{nothing}
 use Rattle.c6x_asm_texts.specs.Parts.{AreAt, lexemes_at}
 use Rattle.c6x_gen_assembles.specs.Lines.{count_word, global_line, labelled_line, push, section_line}
 use Rattle.c6x_gen_assembles.proofs.Steps.{coded, in_code, IsCode, IsName}
-use Rattle.c6x_gen_assembles.proofs.Words.{PUSH_B14, push_b14_word, PUSH_B3, push_b3_word}
+use Rattle.c6x_gen_assembles.specs.Words.{PUSH_B14, PUSH_B3}
+use Rattle.c6x_gen_assembles.proofs.Words.{push_b14_word, push_b3_word}
 
 pub same_bytes : (bs : List ℕ) → bytes_eq bs bs ≡ true
 same_bytes bs = (bytes_eq-Decides bs bs).1 refl

@@ -28,7 +28,7 @@ library_text n library = shaped (codes "        .sect \".text\"\n        .global
 call_before : (name rest : List ℕ) → codes "        CALLP .S2 " ++ name ++ codes ",B3\n" ++ rest ≡ line_before (indented (call name)) rest
 call_before name rest = append_assoc (codes "        CALLP .S2 " ++ name) (codes ",B3\n") rest ∙ append_assoc (codes "        CALLP .S2 ") name (codes ",B3\n" ++ rest)
 
-calls_before : (n count : ℕ) (rest : List ℕ) → each_below count (call_line n) ++ rest ≡ lines_before (call_lines n count) rest
+pub calls_before : (n count : ℕ) (rest : List ℕ) → each_below count (call_line n) ++ rest ≡ lines_before (call_lines n count) rest
 unfolding each_below
 calls_before n zero rest = refl
 calls_before n (suc last) rest =

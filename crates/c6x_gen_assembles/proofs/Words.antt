@@ -1,5 +1,5 @@
 -- The words of the instructions.
-use Rattle.std.proofs.Common.{◌≡◌, ℕ, false, Some, refl}
+use Rattle.std.proofs.Common.{◌≡◌, false, Some, refl}
 use Rattle.c6x_base.specs.declared.side.Side.TheVariants.{A, B}
 use Rattle.c6x_instr.specs.declared.access.Access.TheVariants.{Ldw, Stw}
 use Rattle.c6x_instr.specs.declared.arith.Arith.TheVariants.{Add}
@@ -9,48 +9,7 @@ use Rattle.c6x_instr.specs.declared.op.Op.TheVariants.{Two as TwoOp, Callp as Ca
 use Rattle.c6x_instr.specs.declared.unit_kind.UnitKind.TheVariants.{L}
 use Rattle.c6x_encoding.specs.Encoded.{encoded, joined_fields, l_code}
 use Rattle.c6x_asm_steps.specs.Instructions.{word_of}
-
--- `CALLP .S2 name,B3`, whose field its relocation fills
-abbrev pub CALL : ℕ
-CALL = 0x10000012
-
--- `STW .D2T2 B3,*B15--[2]` and `LDW .D2T2 *++B15[2],B3`
-abbrev pub PUSH_B3 : ℕ
-PUSH_B3 = 0x01BC54F6
-
-abbrev pub POP_B3 : ℕ
-POP_B3 = 0x01BC52E6
-
--- the same of B14
-abbrev pub PUSH_B14 : ℕ
-PUSH_B14 = 0x073C54F6
-
-abbrev pub POP_B14 : ℕ
-POP_B14 = 0x073C52E6
-
--- `NOP 4`
-abbrev pub WAIT : ℕ
-WAIT = 0x6000
-
--- `BNOP .S2 B3,5`
-abbrev pub GO_BACK : ℕ
-GO_BACK = 0x008CA362
-
--- `LDW .D2T2 *+B14(%dsbt_index),B14`
-abbrev pub LOAD_TABLE : ℕ
-LOAD_TABLE = 0x0700006E
-
--- `LDW .D2T1 *+B14(count),A5`
-abbrev pub LOAD_COUNT : ℕ
-LOAD_COUNT = 0x0280006C
-
--- `ADD .L1 A4,A5,A4`
-abbrev pub ADD_COUNT : ℕ
-ADD_COUNT = 0x02148078
-
--- `STW .D2T1 A4,*+B14(count)`
-abbrev pub STORE_COUNT : ℕ
-STORE_COUNT = 0x0200007C
+use Rattle.c6x_gen_assembles.specs.Words.{CALL, PUSH_B3, POP_B3, PUSH_B14, POP_B14, WAIT, GO_BACK, LOAD_TABLE, LOAD_COUNT, ADD_COUNT, STORE_COUNT}
 
 pub call_word : word_of Always (CallpOp B 0) ≡ Some CALL
 unfolding word_of encoded joined_fields

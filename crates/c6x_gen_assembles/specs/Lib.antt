@@ -1,2 +1,4 @@
 pub mod Assembles
 pub mod Lines
+pub mod Objects
+pub mod Words
