@@ -13,7 +13,7 @@ use Rattle.c6x_asm.specs.Reading.{nothing}
 use Rattle.c6x_asm_texts.specs.Parts.{AreAt, lexemes_at, line_length, lines_at, LinesAreAt, Part, text_of}
 use Rattle.c6x_gen.specs.Lists.{each_below}
 use Rattle.c6x_gen.specs.Sources.{called, calls, library_name}
-use Rattle.c6x_gen_assembles.specs.Lines.{call_line, call_lines, closing_lines, global_line, labelled_line, opening_lines, push, section_line}
+use Rattle.c6x_gen_assembles.proofs.Lines.{call_line, call_lines, closing_lines, global_line, labelled_line, opening_lines, push, section_line}
 use Rattle.c6x_gen_assembles.proofs.Alone.{stands_alone}
 use Rattle.c6x_gen_assembles.proofs.Grown.{grown_light, IsMade, lined_so, Made, made_code, made_lined, next, next_made, one_small, state_of}
 use Rattle.c6x_gen_assembles.proofs.Library.{begun, begun_code, begun_grown}

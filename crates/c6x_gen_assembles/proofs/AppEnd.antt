@@ -9,7 +9,7 @@ use Rattle.c6x_asm_texts.specs.Parts.{AreAt, AreLines, lexemes_at, lines_at, Lin
 use Rattle.c6x_asm_texts.proofs.Read.{text_read}
 use Rattle.c6x_gen.specs.Lists.{each_below}
 use Rattle.c6x_gen.specs.Sources.{called, calls, library_name}
-use Rattle.c6x_gen_assembles.specs.Lines.{call, call_line, call_lines, closing_lines, go_back, indented, naming_lines, opening_lines, pop, section_line, wait}
+use Rattle.c6x_gen_assembles.proofs.Lines.{call, call_line, call_lines, closing_lines, go_back, indented, naming_lines, opening_lines, pop, section_line, wait}
 use Rattle.c6x_gen_assembles.proofs.Alone.{none_bad}
 use Rattle.c6x_gen_assembles.proofs.App.{AreFound, callee_named, called_made, called_so, calls_count, calls_lined, few_calls, found_behind, lines_to, popped, popped_made, returned, returned_made, text, waited, waited_made}
 use Rattle.c6x_gen_assembles.proofs.Apart.{is_apart, lines_apart, lines_both, parts_apart}

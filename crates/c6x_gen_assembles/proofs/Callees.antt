@@ -10,7 +10,7 @@ use Rattle.c6x_asm_object.specs.declared.symbol.Symbol.{Symbol}
 use Rattle.c6x_asm_texts.specs.Parts.{line_before, line_length, lines_before, Part, part_bytes}
 use Rattle.c6x_gen.specs.Lists.{each_below}
 use Rattle.c6x_gen.specs.Sources.{call_line as line_that_calls, called, calls, library_name, opening}
-use Rattle.c6x_gen_assembles.specs.Lines.{call_lines, closing_lines, opening_lines}
+use Rattle.c6x_gen_assembles.proofs.Lines.{call_lines, closing_lines, opening_lines}
 use Rattle.c6x_gen_assembles.specs.Objects.{call_symbols, callee, callee_place, exported, start_of}
 use Rattle.c6x_gen_assembles.proofs.App.{AreFound, call_found, call_place, found_before, found_behind, lines_to, text}
 use Rattle.c6x_gen_assembles.proofs.Names.{libraries_differ}

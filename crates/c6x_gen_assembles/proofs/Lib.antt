@@ -1,3 +1,4 @@
+mod Lines
 mod Texts
 mod Words
 mod Steps

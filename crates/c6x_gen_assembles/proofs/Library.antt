@@ -14,7 +14,7 @@ use Rattle.c6x_asm_object.specs.declared.symbol.Symbol.{Symbol}
 use Rattle.c6x_asm.specs.Lines.{lined}
 use Rattle.c6x_asm.specs.Reading.{nothing}
 use Rattle.c6x_asm_texts.specs.Parts.{lexemes_at, LinesAreAt, text_of}
-use Rattle.c6x_gen_assembles.specs.Lines.{add_count, global_line, go_back, indented, labelled_line, library_lines, load_count, load_table, pop, push, section_line, store_count, wait}
+use Rattle.c6x_gen_assembles.proofs.Lines.{add_count, global_line, go_back, indented, labelled_line, library_lines, load_count, load_table, pop, push, section_line, store_count, wait}
 use Rattle.c6x_gen_assembles.proofs.Alone.{stands_alone}
 use Rattle.c6x_gen_assembles.proofs.Grown.{grown_light, IsGrown, IsMade, lined_so, Made, made_code, made_lined, next, next_made, one_small, state_of}
 use Rattle.c6x_gen_assembles.proofs.Openings.{given, global_place, global_step, in_text, push_b14_step, section_step, text_section}

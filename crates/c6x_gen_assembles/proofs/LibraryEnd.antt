@@ -17,7 +17,7 @@ use Rattle.c6x_asm.specs.Reading.{bad_line, nothing}
 use Rattle.c6x_asm_shown.specs.Pieces.{is_decimal}
 use Rattle.c6x_asm_texts.specs.Parts.{lexemes_at, lines_at}
 use Rattle.c6x_asm_texts.proofs.Read.{text_read}
-use Rattle.c6x_gen_assembles.specs.Lines.{count_word, labelled_line, library_behind, library_lines, section_line}
+use Rattle.c6x_gen_assembles.proofs.Lines.{count_word, labelled_line, library_behind, library_lines, section_line}
 use Rattle.c6x_gen_assembles.proofs.Alone.{none_bad}
 use Rattle.c6x_gen_assembles.proofs.Apart.{are_apart, lines_apart}
 use Rattle.c6x_gen_assembles.proofs.Grown.{AreNames, grown_light, IsLight, lined_so, state_of, two_small}

@@ -27,7 +27,7 @@ use Rattle.c6x_asm_steps.specs.States.{entered, label_fault, labelled, name_chan
 use Rattle.c6x_asm.specs.Lines.{read_line}
 use Rattle.c6x_asm.specs.Reading.{nothing}
 use Rattle.c6x_asm_texts.specs.Parts.{AreAt, lexemes_at}
-use Rattle.c6x_gen_assembles.specs.Lines.{count_word, global_line, labelled_line, push, section_line}
+use Rattle.c6x_gen_assembles.proofs.Lines.{count_word, global_line, labelled_line, push, section_line}
 use Rattle.c6x_gen_assembles.proofs.Steps.{coded, in_code, IsCode, IsName}
 use Rattle.c6x_gen_assembles.specs.Words.{PUSH_B14, PUSH_B3}
 use Rattle.c6x_gen_assembles.proofs.Words.{push_b14_word, push_b3_word}

@@ -23,7 +23,7 @@ use Rattle.c6x_asm_steps.specs.States.{relocated, State}
 use Rattle.c6x_asm.specs.Lines.{read_line}
 use Rattle.c6x_asm_shown.specs.Pieces.{is_word, word_at}
 use Rattle.c6x_asm_texts.specs.Parts.{AreAt, lexemes_at}
-use Rattle.c6x_gen_assembles.specs.Lines.{add_count, call, go_back, indented, load_count, load_table, pop, store_count, wait}
+use Rattle.c6x_gen_assembles.proofs.Lines.{add_count, call, go_back, indented, load_count, load_table, pop, store_count, wait}
 use Rattle.c6x_gen_assembles.specs.Words.{ADD_COUNT, CALL, GO_BACK, LOAD_COUNT, LOAD_TABLE, POP_B14, POP_B3, STORE_COUNT, WAIT}
 use Rattle.c6x_gen_assembles.proofs.Words.{add_count_word, call_word, go_back_word, load_count_word, load_table_word, pop_b14_word, pop_b3_word, store_count_word, wait_word}
 

@@ -5,7 +5,7 @@ use Rattle.std.proofs.lemmas.List.{append_assoc}
 use Rattle.c6x_gen.specs.Lists.{each_below}
 use Rattle.c6x_gen.specs.Sources.{app_source, call_line, called, calls, closing, counter, function_code, library_name, library_source, opening}
 use Rattle.c6x_asm_texts.specs.Parts.{line_before, lines_before, Part, text_of}
-use Rattle.c6x_gen_assembles.specs.Lines.{call, call_line as line_of_call, call_lines, closing_lines, indented, library_lines, opening_lines}
+use Rattle.c6x_gen_assembles.proofs.Lines.{call, call_line as line_of_call, call_lines, closing_lines, indented, library_lines, opening_lines}
 
 pub lines_joined : (lines others : List (List Part)) (rest : List ℕ) → lines_before (lines ++ others) rest ≡ lines_before lines (lines_before others rest)
 lines_joined [] others rest = refl

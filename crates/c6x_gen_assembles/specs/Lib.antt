@@ -1,4 +1,3 @@
 pub mod Assembles
-pub mod Lines
 pub mod Objects
 pub mod Words
