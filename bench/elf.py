@@ -3,7 +3,7 @@
 
     bench/elf.py [PROGRAM]
 
-PROGRAM is the built program `c6x_elf_probe`, by default crates/c6x_elf_probe/out/c6x_elf_probe: it
+PROGRAM is the built program `c6x_probe`, by default crates/c6x_probe/out/c6x_probe: it
 reads each file, prints its values and writes it again. Times are processor time. The time without the file's own work is that of as
 many hexadecimal digits that are no file. Where `readelf` is installed, the time of `readelf -S -W` over
 the same file stands beside it; readelf reads the headers alone.
@@ -18,7 +18,7 @@ import tempfile
 
 HERE = os.path.dirname(os.path.abspath(__file__))
 PROGRAM = sys.argv[1] if len(sys.argv) > 1 else os.path.join(
-    HERE, "..", "crates", "c6x_elf_probe", "out", "c6x_elf_probe")
+    HERE, "..", "crates", "c6x_probe", "out", "c6x_probe")
 SECTIONS = 4_096
 ROUNDS = 5
 
@@ -63,10 +63,10 @@ def main():
     readelf = shutil.which("readelf")
     for mebibytes in (1, 2, 4):
         data = file_of(mebibytes * 1_048_576)
-        whole, out = best([PROGRAM], data.hex().encode() + b"\n")
+        whole, out = best([PROGRAM], b"elf " + data.hex().encode() + b"\n")
         if not out.startswith(b"ok ") or b" written %d " % len(data) not in out:
             sys.exit("bench/elf.py: the file was not read and written: %r" % out[:60])
-        digits, _ = best([PROGRAM], b"00" * len(data) + b"\n")
+        digits, _ = best([PROGRAM], b"elf " + b"00" * len(data) + b"\n")
         line = "%d MiB, %d sections: read, print and write %.1f ms, of which %.1f ms are the digits" % (
             mebibytes, SECTIONS, whole, digits)
         if readelf:

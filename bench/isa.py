@@ -4,8 +4,8 @@
 Usage: bench/isa.py [OBJDUMP [WORDS]]
 
 OBJDUMP is a tic6x objdump, by default the one on the path; without one its line is left out. WORDS is how many
-words are decoded, by default 20,000,000; objdump lists a fiftieth of them. The program `c6x_isa_probe` has to be
-built first: `rt run` in crates/c6x_isa_probe.
+words are decoded, by default 20,000,000; objdump lists a fiftieth of them. The program `c6x_probe` has to be
+built first: `rt run` in crates/c6x_probe.
 """
 import shutil
 import struct
@@ -15,7 +15,7 @@ import tempfile
 import time
 from pathlib import Path
 
-PROGRAM = Path(__file__).resolve().parent.parent / "crates" / "c6x_isa_probe" / "out" / "c6x_isa_probe"
+PROGRAM = Path(__file__).resolve().parent.parent / "crates" / "c6x_probe" / "out" / "c6x_probe"
 MASK = 0xFFFFFFFF
 
 
@@ -43,7 +43,7 @@ def drawn(number, seed):
 
 def main():
     if not PROGRAM.exists():
-        print("bench/isa.py: c6x_isa_probe is not built, so nothing is measured")
+        print("bench/isa.py: c6x_probe is not built, so nothing is measured")
         return 0
     words = int(sys.argv[2]) if len(sys.argv) > 2 else 20_000_000
     taken = seconds([PROGRAM], input=f"count {words:x} 1\n".encode())

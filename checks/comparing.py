@@ -139,12 +139,12 @@ def modules_of(script, command, files, plans):
     return [bytes(shelf[b"m%d" % number]) for number in range(len(plans))]
 
 
-def answers(script, program, cases, answer, kind_of):
-    """Gives a probe all cases and compares each of its lines with the model's answer; how many of each kind there were."""
+def answers(script, program, word, cases, answer, kind_of):
+    """Gives the probe all cases, each behind this word, and compares each of its lines with the model's answer; how many of each kind there were."""
     kinds = {}
     for first in range(0, len(cases), BATCH):
         batch = cases[first:first + BATCH]
-        text = "".join(case.hex() + "\n" for case in batch)
+        text = "".join(f"{word} {case.hex()}\n" for case in batch)
         run = subprocess.run([program], input=text.encode(), stdout=subprocess.PIPE, check=True)
         lines = run.stdout.decode().splitlines()
         if len(lines) != len(batch):

@@ -4,7 +4,7 @@
     checks/elf.py MODEL [PROGRAM] [CASES]
 
 MODEL is the folder of a reference model with the modules `elf`, `forge`, `asm` and `command`; PROGRAM is
-the built program `c6x_elf_probe`, by default crates/c6x_elf_probe/out/c6x_elf_probe. Objects and
+the built program `c6x_probe`, by default crates/c6x_probe/out/c6x_probe. Objects and
 linked modules of the model are changed in one to four bytes, cut or extended, and each answer, the place
 of a broken rule, the values that were read and the written form of a tidy file are compared.
 """
@@ -17,7 +17,7 @@ if len(sys.argv) < 2:
 MODEL = sys.argv[1]
 HERE = os.path.dirname(os.path.abspath(__file__))
 PROGRAM = sys.argv[2] if len(sys.argv) > 2 else os.path.join(
-    HERE, "..", "crates", "c6x_elf_probe", "out", "c6x_elf_probe")
+    HERE, "..", "crates", "c6x_probe", "out", "c6x_probe")
 CASES = int(sys.argv[3]) if len(sys.argv) > 3 else 20_000
 
 from comparing import answers, shown  # noqa: E402
@@ -116,7 +116,7 @@ def main():
     cases = list(whole) + [whole[0][:n] for n in range(len(whole[0]))]
     while len(cases) < CASES:
         cases.append(mutated(rng, rng.choice(whole)))
-    kinds = answers("checks/elf.py", PROGRAM, cases, answer, kind_of)
+    kinds = answers("checks/elf.py", PROGRAM, "elf", cases, answer, kind_of)
     print("answers: " + ", ".join("%s %d" % pair for pair in sorted(kinds.items())))
     print("%d cases of %d files, no difference" % (len(cases), len(whole)))
 

@@ -7,8 +7,8 @@ that long packets and each rule of a packet are met often.
 Usage: checks/isa.py MODEL [COUNT [SEED]]
 
 MODEL is the folder of the model's `isa.py`, which has `decode`, `encode`, `effects`, `show` and `split`. COUNT is
-how many words to try, at least 200,000 if it is not given. The program `c6x_isa_probe` has to be built first:
-`rt run` in crates/c6x_isa_probe.
+how many words to try, at least 200,000 if it is not given. The program `c6x_probe` has to be built first:
+`rt run` in crates/c6x_probe.
 """
 import random
 import subprocess
@@ -17,7 +17,7 @@ from collections import Counter
 from pathlib import Path
 
 ROOT = Path(__file__).resolve().parent.parent
-PROGRAM = ROOT / "crates" / "c6x_isa_probe" / "out" / "c6x_isa_probe"
+PROGRAM = ROOT / "crates" / "c6x_probe" / "out" / "c6x_probe"
 MASK = 0xFFFFFFFF
 # The lengths of packets and the rules that a chain can break, by the names that the program prints.
 ANSWERS = [f"{n} words" for n in range(1, 9)] + ["BadWord", "TooLong", "UnitTwice", "SameSide", "CrossTwice"]
@@ -198,7 +198,7 @@ def main():
         print("checks/isa.py: no model is given, so nothing is compared")
         return 0
     if not PROGRAM.exists():
-        print(f"checks/isa.py: {PROGRAM} is not built: `rt run` in crates/c6x_isa_probe builds it")
+        print(f"checks/isa.py: {PROGRAM} is not built: `rt run` in crates/c6x_probe builds it")
         return 1
     sys.path.insert(0, sys.argv[1])
     import isa as model

@@ -4,7 +4,7 @@
     checks/module.py MODEL [PROGRAM] [CASES] [TOOLS]
 
 MODEL is the folder of a reference model with the modules `module`, `elf`, `forge`, `asm` and `command`;
-PROGRAM is the built program `c6x_module_probe`, by default crates/c6x_module_probe/out/c6x_module_probe.
+PROGRAM is the built program `c6x_probe`, by default crates/c6x_probe/out/c6x_probe.
 TOOLS is a folder with GNU binutils for tic6x-uclinux (`bin/tic6x-uclinux-as` and `-ld`), if there is one:
 then libraries and executables of GNU ld, in its ordinary and its `-s` form, are changed too. Modules of the
 model, forged or linked, are changed in their program headers, dynamic entries, tables or bytes; each answer,
@@ -22,7 +22,7 @@ if len(sys.argv) < 2:
 MODEL = sys.argv[1]
 HERE = os.path.dirname(os.path.abspath(__file__))
 PROGRAM = sys.argv[2] if len(sys.argv) > 2 and sys.argv[2] else os.path.join(
-    HERE, "..", "crates", "c6x_module_probe", "out", "c6x_module_probe")
+    HERE, "..", "crates", "c6x_probe", "out", "c6x_probe")
 CASES = int(sys.argv[3]) if len(sys.argv) > 3 else 20_000
 TOOLS = sys.argv[4] if len(sys.argv) > 4 else ""
 
@@ -273,7 +273,7 @@ def main():
     cases = [elf.write_file(file) for file in whole + long_names()]
     while len(cases) < CASES:
         cases.append(elf.write_file(mutated(rng, rng.choice(theirs if theirs and rng.random() < .4 else ours))))
-    kinds = answers("checks/module.py", PROGRAM, cases, answer, kind_of)
+    kinds = answers("checks/module.py", PROGRAM, "module", cases, answer, kind_of)
     print("answers: " + ", ".join("%s %d" % pair for pair in sorted(kinds.items())))
     print("%d cases of %d modules, %d of them of GNU ld, no difference" % (len(cases), len(whole), len(theirs)))
 

@@ -1,5 +1,6 @@
 ghost use Rattle.std.specs.Prelude.{◌≤◌, length};
 
+use crate::sums::put_bytes;
 use c6x_base::Name;
 use c6x_elf::{ElfError, File, Segment, read_file};
 use c6x_module::{DynSymbol, Field, Module, ModuleError, ModuleRule};
@@ -9,7 +10,11 @@ use std::io;
 use std::io::Write;
 
 /// Prints the module of a file's bytes, or the first broken rule.
-pub fn put_answer<W: Write + Drop>(alloc: Global, out: &mut W, bytes: &[u8]) -> io::Result<()> {
+pub fn put_module_answer<W: Write + Drop>(
+    alloc: Global,
+    out: &mut W,
+    bytes: &[u8],
+) -> io::Result<()> {
     match read_file(alloc, bytes) {
         Ok(file) => put_module_of(alloc, out, file),
         Err(ElfError::Rule { rule: _, place }) => writeln!(out, "E {place}"),
@@ -32,7 +37,7 @@ fn put_module_of<W: Write + Drop>(alloc: Global, out: &mut W, file: File) -> io:
 }
 
 /// The number of a rule.
-pub fn number_of(rule: ModuleRule) -> u32 {
+fn number_of(rule: ModuleRule) -> u32 {
     match rule {
         ModuleRule::NotDsbt => 1,
         ModuleRule::Segments => 2,
@@ -86,13 +91,4 @@ fn put_field<W: Write + Drop>(out: &mut W, field: &Field) -> io::Result<()> {
     let kind = if field.slot_kind { "slot" } else { "word" };
     write!(out, " {kind} {}", field.place)?;
     write!(out, " {} {}", field.symbol, field.addend)
-}
-
-/// Prints how many bytes there are, and their FNV-1a sum.
-fn put_bytes<W: Write + Drop>(out: &mut W, bytes: &[u8]) -> io::Result<()> {
-    let mut sum: u32 = 0x811C_9DC5;
-    for byte in bytes {
-        sum = (sum ^ u32::from(*byte)).wrapping_mul(0x0100_0193);
-    }
-    write!(out, " {} {sum:08x}", bytes.len())
 }

@@ -1,13 +1,18 @@
 ghost use Rattle.std.specs.Prelude.{false};
 ghost use Rattle.c6x_elf.specs.Form.{IsTidy};
 
+use crate::sums::put_bytes;
 use c6x_elf::{ElfError, ElfRule, File, Section, Segment, is_tidy, read_file, write_file};
 use std::alloc::Global;
 use std::io;
 use std::io::Write;
 
 /// Prints what the bytes of a file stand for, or the first broken rule with its place.
-pub fn put_answer<W: Write + Drop>(alloc: Global, out: &mut W, bytes: &[u8]) -> io::Result<()> {
+pub fn put_file_answer<W: Write + Drop>(
+    alloc: Global,
+    out: &mut W,
+    bytes: &[u8],
+) -> io::Result<()> {
     match read_file(alloc, bytes) {
         Ok(file) => {
             put_file(out, &file)?;
@@ -22,7 +27,7 @@ pub fn put_answer<W: Write + Drop>(alloc: Global, out: &mut W, bytes: &[u8]) -> 
 }
 
 /// The number of a rule.
-pub fn number_of(rule: ElfRule) -> u32 {
+fn number_of(rule: ElfRule) -> u32 {
     match rule {
         ElfRule::Short => 1,
         ElfRule::Magic => 2,
@@ -92,13 +97,4 @@ fn put_written<W: Write + Drop>(alloc: Global, out: &mut W, file: &File) -> io::
         }
         Err(_) => write!(out, " no memory"),
     }
-}
-
-/// Prints how many bytes there are, and their FNV-1a sum.
-fn put_bytes<W: Write + Drop>(out: &mut W, bytes: &[u8]) -> io::Result<()> {
-    let mut sum: u32 = 0x811C_9DC5;
-    for byte in bytes {
-        sum = (sum ^ u32::from(*byte)).wrapping_mul(0x0100_0193);
-    }
-    write!(out, " {} {sum:08x}", bytes.len())
 }
