@@ -1,0 +1,5 @@
+mod Below
+mod Prefixes
+mod LibraryFile
+mod Libraries
+mod Linking
