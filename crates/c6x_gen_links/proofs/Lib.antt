@@ -3,3 +3,13 @@ mod Prefixes
 mod LibraryFile
 mod Libraries
 mod Linking
+mod AppFile
+mod AppNames
+mod Reach
+mod AppSizes
+mod AppEntries
+mod AppCounts
+mod AppPasses
+mod Callees
+mod AppObject
+mod AppLinked

@@ -4,7 +4,7 @@ use Rattle.std.specs.Prelude.{is_none}
 use Rattle.c6x_gen.specs.Sources.{counter, library_name}
 use Rattle.c6x_gen.specs.Links.{library_link}
 use Rattle.c6x_gen_links.specs.Links.{LibrariesAreLinked}
-use Rattle.c6x_gen_links.specs.Modules.{library_object}
+use Rattle.c6x_gen_assembles.specs.Objects.{library_object}
 use Rattle.c6x_gen_links.proofs.Below.{all_below, each_below_all}
 use Rattle.c6x_gen_links.proofs.LibraryFile.{library_file, library_is}
 use Rattle.c6x_gen_links.proofs.Linking.{linked_by}

@@ -9,8 +9,7 @@ use Rattle.c6x_asm_form.specs.Filing.{file_of, named_sections, named_shstrtab, n
 use Rattle.c6x_asm_form.specs.Headers.{null_section, section_header, table_section}
 use Rattle.c6x_asm_form.specs.Symbols.{entries, names_table, ordered, symbol_table}
 use Rattle.c6x_gen.specs.Sources.{counter, function_code, library_name, library_source}
-use Rattle.c6x_gen_assembles.specs.Objects.{library_sections, library_symbols}
-use Rattle.c6x_gen_links.specs.Modules.{library_object}
+use Rattle.c6x_gen_assembles.specs.Objects.{library_object, library_sections, library_symbols}
 use Rattle.c6x_gen_links.proofs.Prefixes.{in_front}
 
 -- the text up to the counter's digits, where all names stand

@@ -6,7 +6,7 @@ use Rattle.c6x_plan.specs.declared.link_plan.LinkPlan.{LinkPlan}
 use Rattle.c6x_link.specs.Linked.{link_refusal, linked, linked_of}
 use Rattle.c6x_gen_links.specs.Links.{IsLinked}
 
-none_is : {A : Type 0} (told : Option A) → is_none told ≡ true → told ≡ None
+pub none_is : {A : Type 0} (told : Option A) → is_none told ≡ true → told ≡ None
 none_is None is = refl
 none_is (Some broken) is = absurd (cc)
 

@@ -1,6 +1,7 @@
-ghost use Rattle.c6x_gen_links.specs.Links.{LibrariesAreLinked};
+ghost use Rattle.c6x_gen_links.specs.Links.{ExecutablesAreLinked, LibrariesAreLinked};
 
-/// The object of each library of a number breaks no rule of a link.
-pub fn libraries_are_linked()
-    ensures { LibrariesAreLinked }
+/// The objects of the executable of each number and of each of its libraries break no rule of a link.
+pub fn objects_are_linked()
+    ensures executable { ExecutablesAreLinked }
+    ensures libraries { LibrariesAreLinked }
 {}
