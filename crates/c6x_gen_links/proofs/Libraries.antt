@@ -18,8 +18,8 @@ use Rattle.c6x_elf.specs.Lists.{symtab_of, symbols_of, section_name, is_under}
 use Rattle.c6x_elf.specs.Entries.{text_of}
 use Rattle.c6x_elf.specs.Parts.{has_bytes}
 use Rattle.c6x_symbols.specs.Binding.{is_table, binding_of, name_refusal}
-use Rattle.c6x_symbols.specs.Bindings.{bindings_of, no_name, source_in, is_exported, is_imported, exports_of, imports_of, names_refusal}
-use Rattle.c6x_symbols.specs.Groups.{common_of, group_of, no_group, of_name}
+use Rattle.c6x_symbols.specs.Bindings.{bindings_of, is_exported, is_imported, exports_of, imports_of, names_refusal}
+use Rattle.c6x_symbols.specs.Groups.{common_of, group_of, of_name}
 use Rattle.c6x_symbols.specs.Mentions.{strings_of, mention_of, object_mentions, mentions_of}
 use Rattle.c6x_symbols.specs.Names.{name_at}
 use Rattle.c6x_symbols.specs.Rules.{must}
@@ -28,22 +28,22 @@ use Rattle.c6x_dsbt.specs.Plans.{has_index, has_size, tables_refusal}
 use Rattle.c6x_dsbt.specs.Wanted.{wanted_by, wanted_of, wanted_at}
 use Rattle.c6x_layout.specs.Alignments.{is_alignment, object_align_refusal, alignments_refusal}
 use Rattle.c6x_layout.specs.Dynamics.{is_filled_word, is_filled_entry, file_filled, filled_count, shared_names, module_names, strings_of_link}
-use Rattle.c6x_layout.specs.Layouts.{sections_end, stubs_at, code_end, counts_of, text_end, table_at, words_at, words_end, near_bytes_end, near_zeros_end, near_end, file_end, far_zeros_end, data_end, places_of, commons_of, text_align, data_align, layout_of, greatest_word, size_refusal, layout_refusal}
+use Rattle.c6x_layout.specs.Layouts.{sections_end, stubs_at, code_end, counts_of, text_end, table_at, words_at, words_end, near_bytes_end, near_zeros_end, near_end, file_end, far_zeros_end, data_end, places_of, layout_of, greatest_word, size_refusal, layout_refusal}
 use Rattle.c6x_layout.specs.Places.{start_of, common_room}
 use Rattle.c6x_layout.specs.Regions.{sections_at, names_at, section_region, symbol_in, symbol_region, bound_region, wanted_region}
-use Rattle.c6x_objects.specs.Entries.{is_used, table_entries, file_entries, entries_of}
+use Rattle.c6x_objects.specs.Entries.{is_used, table_entries, file_entries}
 use Rattle.c6x_objects.specs.Parts.{part_of, part_at, file_parts, parts_of}
 use Rattle.c6x_objects.specs.Sections.{has_flag, is_allocated_at, is_near, is_text, zone_in, zone_of}
 use Rattle.c6x_link_targets.specs.Addresses.{section_address, symbol_address, bound_address, wanted_address}
 use Rattle.c6x_link_targets.specs.LinkEntries.{room_of, stands_in_text, section_at, entry_on, link_entry, file_link_entries, link_entries}
-use Rattle.c6x_link_targets.specs.Targets.{import_symbol, target_of}
-use Rattle.c6x_link_targets.specs.Working.{laying_of, working_of}
-use Rattle.c6x_link_entries.specs.Entries.{error_at, field_at, text_fields, data_fields, dynamic_addend, rela_of, dynamic_relas}
+use Rattle.c6x_link_targets.specs.Targets.{target_of}
+use Rattle.c6x_link_targets.specs.Working.{laying_of}
+use Rattle.c6x_link_entries.specs.Entries.{error_at}
 use Rattle.c6x_link_entries.specs.Rules.{must as link_entries_rules_must, is_inside, has_no_addend, kind_rule, entry_rule}
-use Rattle.c6x_linked.specs.Places.{hash_at, symbols_at, strings_at, relas_at, jumps_at, dynamic_at, entry_count, text_size, places_of as linked_places_places_of}
+use Rattle.c6x_linked.specs.Places.{hash_at, symbols_at, strings_at, relas_at, jumps_at, dynamic_at, entry_count, text_size}
 use Rattle.c6x_reloc.specs.Table.{row_of, kind_or}
 use Rattle.c6x_reloc.specs.Value.{sum_of, divides, quotient_of, fits, field_of, has_addend, row_value}
-use Rattle.c6x_link.specs.Linked.{entry_of, entry_refusal, file_refusal, laid_refusal, link_refusal, code_of, content_of, parts_of as link_linked_parts_of, linked_of, linked}
+use Rattle.c6x_link.specs.Linked.{entry_of, entry_refusal, file_refusal, laid_refusal, link_refusal}
 use Rattle.c6x_elf.specs.Attributes.{info_binding, other_visibility, section_class}
 use Rattle.c6x_elf.specs.TableEntries.{symbol_entries, rela_entries, symbol_at, rela_at}
 use Rattle.c6x_elf.specs.EntryRows.{symbol_row, rela_row}
@@ -54,7 +54,7 @@ use Rattle.std.specs.Fmt.{digits}
 
 -- no rule is broken, whatever the counters
 all_pass : (counts : ℕ → ℕ) → all_below 11 (λ before. is_none (link_refusal (library_file (library_name (before + 1)) (counts (before + 1)) ∷ []) (library_link (before + 1)))) ≡ true
-unfolding bytes_at named_symtab named_strtab named_sections named_shstrtab sections_of file_of ordered entries symbol_table names_table symbol_number symbol_numbers binding section_header table_section null_section relocation symtab_of symbols_of section_name is_under text_of has_bytes is_table binding_of name_refusal bindings_of no_name source_in is_exported is_imported exports_of imports_of names_refusal common_of group_of no_group of_name strings_of mention_of object_mentions mentions_of name_at must word_need is_imported_at stub_need file_words file_stubs words_of stubs_of has_index has_size tables_refusal wanted_by wanted_of wanted_at is_alignment object_align_refusal alignments_refusal is_filled_word is_filled_entry file_filled filled_count shared_names module_names strings_of_link sections_end stubs_at code_end counts_of text_end table_at words_at words_end near_bytes_end near_zeros_end near_end file_end far_zeros_end data_end places_of commons_of text_align data_align layout_of greatest_word size_refusal layout_refusal start_of common_room sections_at names_at section_region symbol_in symbol_region bound_region wanted_region is_used table_entries file_entries entries_of part_of part_at file_parts parts_of has_flag is_allocated_at is_near is_text zone_in zone_of section_address symbol_address bound_address wanted_address room_of stands_in_text section_at entry_on link_entry file_link_entries link_entries import_symbol target_of laying_of working_of error_at field_at text_fields data_fields dynamic_addend rela_of dynamic_relas link_entries_rules_must is_inside has_no_addend kind_rule entry_rule hash_at symbols_at strings_at relas_at jumps_at dynamic_at entry_count text_size linked_places_places_of row_of kind_or sum_of divides quotient_of fits field_of has_addend row_value entry_of entry_refusal file_refusal laid_refusal link_refusal code_of content_of link_linked_parts_of linked_of linked info_binding other_visibility section_class symbol_entries rela_entries symbol_at rela_at symbol_row rela_row name_of name_table word_bytes half_bytes word_at half_at digits library_file lib.Count.ones
+unfolding bytes_at named_symtab named_strtab named_sections named_shstrtab sections_of file_of ordered entries symbol_table names_table symbol_number symbol_numbers binding section_header table_section null_section relocation symtab_of symbols_of section_name is_under text_of has_bytes is_table binding_of name_refusal bindings_of is_exported is_imported exports_of imports_of names_refusal common_of group_of of_name strings_of mention_of object_mentions mentions_of name_at must word_need is_imported_at stub_need file_words file_stubs words_of stubs_of has_index has_size tables_refusal wanted_by wanted_of wanted_at is_alignment object_align_refusal alignments_refusal is_filled_word is_filled_entry file_filled filled_count shared_names module_names strings_of_link sections_end stubs_at code_end counts_of text_end table_at words_at words_end near_bytes_end near_zeros_end near_end file_end far_zeros_end data_end places_of layout_of greatest_word size_refusal layout_refusal start_of common_room sections_at names_at section_region symbol_in symbol_region bound_region wanted_region is_used table_entries file_entries part_of part_at file_parts parts_of has_flag is_allocated_at is_near is_text zone_in zone_of section_address symbol_address bound_address wanted_address room_of stands_in_text section_at entry_on link_entry file_link_entries link_entries target_of laying_of error_at link_entries_rules_must is_inside has_no_addend kind_rule entry_rule hash_at symbols_at strings_at relas_at jumps_at dynamic_at entry_count text_size row_of kind_or sum_of divides quotient_of fits field_of has_addend row_value entry_of entry_refusal file_refusal laid_refusal link_refusal info_binding other_visibility section_class symbol_entries rela_entries symbol_at rela_at symbol_row rela_row name_of name_table word_bytes half_bytes word_at half_at digits library_file lib.Count.ones
 all_pass counts = refl
 
 passes : (counts : ℕ → ℕ) (library : ℕ) → 1 ≤ library → library ≤ 11 → is_none (link_refusal (library_file (library_name library) (counts library) ∷ []) (library_link library)) ≡ true
