@@ -13,3 +13,4 @@ mod AppPasses
 mod Callees
 mod AppObject
 mod AppLinked
+mod Readable

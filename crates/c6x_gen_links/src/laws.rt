@@ -1,4 +1,10 @@
 ghost use Rattle.c6x_gen_links.specs.Links.{ExecutablesAreLinked, LibrariesAreLinked};
+ghost use Rattle.c6x_gen_links.specs.Readable.{ObjectsAreRead};
+
+/// What is assembled is an object as a linker takes it, whatever the text.
+pub fn objects_are_read()
+    ensures { ObjectsAreRead }
+{}
 
 /// The objects of the executable of each number and of each of its libraries break no rule of a link.
 pub fn objects_are_linked()
