@@ -1,5 +1,5 @@
 -- An executable is small, with so many calls.
-use Rattle.std.proofs.Common.{◌≡◌, ℕ, ◌+◌, ◌-◌, ◌*◌, ◌/◌, ◌≤◌, ◌==◌, nat_le, Bool, true, false, List, [], ◌∷◌, length, Option, Some, None, if◌then◌else◌, refl, arith}
+use Rattle.std.proofs.Common.{◌≡◌, ℕ, ◌+◌, ◌-◌, ◌*◌, ◌/◌, ◌≤◌, ◌==◌, nat_le, Bool, true, false, List, [], ◌∷◌, length, Option, None, if◌then◌else◌, refl, arith}
 use Rattle.std.specs.Prelude.{is_none}
 use Rattle.std.specs.List.{list_all}
 use Rattle.std.proofs.lemmas.Bool.{and_parts, le-leb, leb-true}
@@ -24,6 +24,7 @@ use Rattle.c6x_objects.specs.declared.zone.Zone.TheVariants.{Text}
 use Rattle.c6x_symbols.specs.Bindings.{BoundName}
 use Rattle.c6x_symbols.specs.Rules.{must}
 use Rattle.c6x_gen_links.proofs.AppFile.{app_file, are_few, bound_of, Contents, has_no_common}
+use Rattle.c6x_gen_links.proofs.Linking.{none_is}
 
 -- its one part
 abbrev pub text_part : Contents → Part
@@ -35,16 +36,8 @@ parts_are c names = refl
 
 -- no name is bound to a common, so none has room
 no_room : (near : Bool) (b : BoundName) → has_no_common b ≡ true → common_room near b ≡ None
-no_room true b is = let both = and_parts (is_none (common_room true b)) (is_none (common_room false b)) is in none_is (common_room true b) both.0
-  where
-    none_is : {A : Type 0} (told : Option A) → is_none told ≡ true → told ≡ None
-    none_is None is = refl
-    none_is (Some x) is = absurd (cc is)
-no_room false b is = let both = and_parts (is_none (common_room true b)) (is_none (common_room false b)) is in none_is (common_room false b) both.1
-  where
-    none_is : {A : Type 0} (told : Option A) → is_none told ≡ true → told ≡ None
-    none_is None is = refl
-    none_is (Some x) is = absurd (cc is)
+no_room true b is = none_is (common_room true b) (and_parts (is_none (common_room true b)) (is_none (common_room false b)) is).0
+no_room false b is = none_is (common_room false b) (and_parts (is_none (common_room true b)) (is_none (common_room false b)) is).1
 
 commons_nowhere : (near : Bool) (from : ℕ) (bs : List BoundName) → list_all has_no_common bs ≡ true → commons_end near from bs ≡ from
 commons_nowhere near from [] all = refl
