@@ -14,3 +14,4 @@ mod AppPasses
 mod Callees
 mod AppObject
 mod AppLinked
+mod Sources

@@ -1,5 +1,8 @@
 ghost use Rattle.c6x_gen_links.specs.Links.{ExecutablesAreLinked, LibrariesAreLinked};
 ghost use Rattle.c6x_gen_links.specs.Readable.{ObjectsAreRead};
+ghost use Rattle.c6x_gen_links.specs.Sources.{SourcesAreLinked};
+
+use c6x_gen_assembles::sources_are_assembled;
 
 /// What is assembled is an object as a linker takes it, whatever the text.
 pub fn objects_are_read()
@@ -11,3 +14,10 @@ pub fn objects_are_linked()
     ensures executable { ExecutablesAreLinked }
     ensures libraries { LibrariesAreLinked }
 {}
+
+/// Each source that a number generates is assembled, and its object linked by its plan.
+pub fn sources_are_linked()
+    ensures { SourcesAreLinked }
+{
+    sources_are_assembled();
+}

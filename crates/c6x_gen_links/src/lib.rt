@@ -5,4 +5,4 @@
 
 mod laws;
 
-pub use laws::{objects_are_linked, objects_are_read};
+pub use laws::{objects_are_linked, objects_are_read, sources_are_linked};
