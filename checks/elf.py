@@ -20,7 +20,7 @@ PROGRAM = sys.argv[2] if len(sys.argv) > 2 else os.path.join(
     HERE, "..", "crates", "c6x_probe", "out", "c6x_probe")
 CASES = int(sys.argv[3]) if len(sys.argv) > 3 else 20_000
 
-from comparing import answers, shown  # noqa: E402
+from comparing import answers, modules_of, shown  # noqa: E402
 
 sys.path.insert(0, MODEL)
 import asm  # noqa: E402

@@ -26,7 +26,7 @@ PROGRAM = sys.argv[2] if len(sys.argv) > 2 and sys.argv[2] else os.path.join(
 CASES = int(sys.argv[3]) if len(sys.argv) > 3 else 20_000
 TOOLS = sys.argv[4] if len(sys.argv) > 4 else ""
 
-from comparing import answers, shown  # noqa: E402
+from comparing import answers, modules_of, shown  # noqa: E402
 
 sys.path.insert(0, MODEL)
 import asm  # noqa: E402
