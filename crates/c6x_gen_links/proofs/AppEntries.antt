@@ -93,21 +93,21 @@ stubs_room : (c : Contents) (names : List (List ℕ)) (words : List Wanted) (stu
 unfolding layout_of
 stubs_room c names words stubs small = (bounds (laid c names words stubs) small).stubs_below
 
-text_at : (c : Contents) (names : List (List ℕ)) (words : List Wanted) (stubs : List ℕ) → address_in (layout_of (laid c names words stubs)).places 0 1 ≡ 65536
+pub text_at : (c : Contents) (names : List (List ℕ)) (words : List Wanted) (stubs : List ℕ) → address_in (layout_of (laid c names words stubs)).places 0 1 ≡ 65536
 unfolding layout_of places_of start_of
 text_at c names words stubs = rw (parts_are c names) refl
 
 -- the place of the symbol and the kind in the entry's word
-number_of : (place : ℕ) → ((3 + place) * 256 + 4) / 256 ≡ 3 + place
+pub number_of : (place : ℕ) → ((3 + place) * 256 + 4) / 256 ≡ 3 + place
 number_of place = omega arith
 
-kind_of : (place : ℕ) → ((3 + place) * 256 + 4) % 256 ≡ 4
+pub kind_of : (place : ℕ) → ((3 + place) * 256 + 4) % 256 ≡ 4
 kind_of place = omega arith
 
-abbrev wanted_in : Contents → List (List ℕ) → List Wanted
+abbrev pub wanted_in : Contents → List (List ℕ) → List Wanted
 wanted_in c names = wanted_of (map name_in (bound_of c names)) 0 (app_file c names).sections
 
-call_by : (c : Contents) (names : List (List ℕ)) (words : List Wanted) (stubs : List ℕ) (count line place : ℕ) → size_refusal (laid c names words stubs) ≡ None → are_imports c names count ≡ true → place < count → 8 + 4 * line ≤ length c.code → line < 2 ^ 16 → IsCallBy (link_entry (working c names words stubs) (wanted_in c names) (entry_of 0 1 (call_rela line place))).reference
+pub call_by : (c : Contents) (names : List (List ℕ)) (words : List Wanted) (stubs : List ℕ) (count line place : ℕ) → size_refusal (laid c names words stubs) ≡ None → are_imports c names count ≡ true → place < count → 8 + 4 * line ≤ length c.code → line < 2 ^ 16 → IsCallBy (link_entry (working c names words stubs) (wanted_in c names) (entry_of 0 1 (call_rela line place))).reference
 unfolding link_entry entry_on target_of stands_in_text room_of section_at section_region sections_at names_at zone_of zone_in is_text is_near section_name is_under text_of name_of has_flag app_file sections_of named_shstrtab null_section table_section kind_or row_of
 call_by c names words stubs count line place small imports below inside few =
     let w = working c names words stubs in

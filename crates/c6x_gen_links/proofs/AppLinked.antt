@@ -11,7 +11,7 @@ use Rattle.c6x_gen_links.proofs.AppObject.{app_is, code_length, contents, instru
 use Rattle.c6x_gen_links.proofs.AppPasses.{app_passes, IsExecutable}
 use Rattle.c6x_gen_links.proofs.Linking.{linked_by}
 
-executable : (n : ℕ) → IsExecutable (contents n) (names_in n) (calls n) (named n)
+pub executable : (n : ℕ) → IsExecutable (contents n) (names_in n) (calls n) (named n)
 unfolding contents
 executable n =
     let count = instruction_count n in record {

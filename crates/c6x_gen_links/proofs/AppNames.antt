@@ -34,7 +34,7 @@ use Rattle.c6x_spec.specs.Numbers.{word_at, half_at}
 use Rattle.std.specs.Fmt.{digits}
 
 -- a test of each order of names and each number of them
-abbrev every : (ℕ → ℕ → Bool) → Bool
+abbrev pub every : (ℕ → ℕ → Bool) → Bool
 every test = all_below 11 (λ n. all_below 11 (λ before. test n (before + 1)))
 
 no_name_refused : (c : Contents) → every (λ n count. is_none (names_refusal (bound_of c (callee_names n count)))) ≡ true
@@ -62,7 +62,7 @@ unfolding app_file each_below digits sections_of named_shstrtab table_section nu
 all_imports c = refl
 
 -- what a test says of each order and number
-tested : (test : ℕ → ℕ → Bool) → every test ≡ true → (n count : ℕ) → n < 11 → 1 ≤ count → count ≤ 11 → test n count ≡ true
+pub tested : (test : ℕ → ℕ → Bool) → every test ≡ true → (n count : ℕ) → n < 11 → 1 ≤ count → count ≤ 11 → test n count ≡ true
 tested test all n zero small least most = absurd (omega (arith, least))
 tested test all n (suc before) small least most =
     let is : before + 1 ≡ suc before = omega arith in
@@ -78,7 +78,7 @@ same_each (suc last) f g same = rw (same_each last f g same, same last) refl
 same_called : (n line : ℕ) → called n line ≡ called (n % 11) line
 same_called n line = omega arith
 
-same_names : (n count : ℕ) → callee_names n count ≡ callee_names (n % 11) count
+pub same_names : (n count : ℕ) → callee_names n count ≡ callee_names (n % 11) count
 same_names n count = same_each count (λ line. library_name (called n line) ∷ []) (λ line. library_name (called (n % 11) line) ∷ []) (λ line. ap (λ k. library_name k ∷ []) (same_called n line))
 
 -- What the names of an executable are for its link.

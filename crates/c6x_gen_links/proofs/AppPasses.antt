@@ -55,7 +55,7 @@ all_fit (suc last) few =
     All-append RelaFits (call_relas last) (call_rela last (last % 11) ∷ []) (all_fit last (omega (arith, few)))
     (All-cons RelaFits (call_rela last (last % 11)) [] (call_fits last (omega (arith, few))) (All-nil RelaFits))
 
-relas_read : (c : Contents) (names : List (List ℕ)) (count most : ℕ) → IsExecutable c names count most → rela_entries false c.relas ≡ call_relas count
+pub relas_read : (c : Contents) (names : List (List ℕ)) (count most : ℕ) → IsExecutable c names count most → rela_entries false c.relas ≡ call_relas count
 relas_read c names count most is = ap (rela_entries false) is.relas ∙ relas_back false (call_relas count) (all_fit count is.few)
 
 call_count : (count : ℕ) → length (call_relas count) ≡ count
@@ -88,13 +88,13 @@ entries_fine w wanted (suc last) each =
     (errors_none (map (link_entry w wanted) (map (entry_of 0 1) (call_relas last))) (link_entry w wanted (entry_of 0 1 (call_rela last (last % 11))))
     (entries_fine w wanted last (λ line below. each line (omega (arith, below)))) (each last (omega arith)))
 
-abbrev words_in : Contents → List (List ℕ) → List Wanted
+abbrev pub words_in : Contents → List (List ℕ) → List Wanted
 words_in c names = words_of (app_file c names ∷ []) (bound_of c names)
 
-abbrev stubs_in : Contents → List (List ℕ) → List ℕ
+abbrev pub stubs_in : Contents → List (List ℕ) → List ℕ
 stubs_in c names = stubs_of (app_file c names ∷ []) (bound_of c names)
 
-sizes : (c : Contents) (names : List (List ℕ)) (count most : ℕ) → IsExecutable c names count most → size_refusal (laid c names (words_in c names) (stubs_in c names)) ≡ None
+pub sizes : (c : Contents) (names : List (List ℕ)) (count most : ℕ) → IsExecutable c names count most → size_refusal (laid c names (words_in c names) (stubs_in c names)) ≡ None
 sizes c names count most is =
     let few = is.few in
     let read : count_of c ≡ count = ap length (relas_read c names count most is) ∙ call_count count in

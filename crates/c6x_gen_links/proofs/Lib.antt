@@ -1,17 +1,17 @@
-mod Below
+pub mod Below
 mod Prefixes
 mod Readable
 mod Linking
-mod LibraryFile
+pub mod LibraryFile
 mod Libraries
-mod AppFile
-mod AppNames
-mod AppSizes
-mod Reach
-mod AppEntries
-mod AppCounts
-mod AppPasses
-mod Callees
-mod AppObject
-mod AppLinked
+pub mod AppFile
+pub mod AppNames
+pub mod AppSizes
+pub mod Reach
+pub mod AppEntries
+pub mod AppCounts
+pub mod AppPasses
+pub mod Callees
+pub mod AppObject
+pub mod AppLinked
 mod Sources

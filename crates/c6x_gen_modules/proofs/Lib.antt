@@ -1,0 +1,14 @@
+mod Bytes
+mod Filing
+mod Texts
+mod Linkable
+mod Reading
+mod LibraryParts
+mod Libraries
+mod AppStubs
+mod AppOrders
+mod AppNeeds
+mod AppFields
+mod AppEntry
+mod App
+mod Executables
