@@ -1,0 +1,5 @@
+mod Shapes
+mod Members
+mod Lists
+mod Found
+mod Bound
