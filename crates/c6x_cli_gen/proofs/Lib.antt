@@ -1,3 +1,4 @@
 pub mod Relocatable
 pub mod MadeBehind
 pub mod Totals
+pub mod Room

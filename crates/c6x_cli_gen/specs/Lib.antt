@@ -1,3 +1,4 @@
 pub mod Made
 pub mod Sums
 pub mod Stages
+pub mod Room
