@@ -3,3 +3,4 @@ pub mod OutcomeKinds
 pub mod Served
 pub mod Relocated
 pub mod Boarded
+pub mod Generated

@@ -1,12 +1,11 @@
 -- After status 0 the linked modules of a plan hold.
-use Rattle.std.proofs.Common.{◌≡◌, ℕ, ◌⊎◌, inl, inr, Bool, List, refl, sym, ap, ◌∙◌, subst, length, arith}
+use Rattle.std.proofs.Common.{◌≡◌, ℕ, inl, inr, Bool, List, refl, sym, ap, subst, length, arith}
 use Rattle.std.specs.Prelude.{Option, None, Some, Result, Ok, Err}
 use Rattle.c6x_spec.specs.Files.{Files}
-use Rattle.c6x_spec.specs.Memory.{CanStart, Memory}
+use Rattle.c6x_spec.specs.Memory.{CanStart}
 use Rattle.c6x_policy.specs.declared.kind.Kind.{Kind}
 use Rattle.c6x_ports.specs.Sink.{Taken}
 use Rattle.c6x_cli_loading.specs.Loading.{loading_steps}
-use Rattle.c6x_cli_loading.specs.declared.loading.Loading.{Loading}
 use Rattle.c6x_cli_relocated.specs.LinkedModules.{LinkedModulesHold}
 use Rattle.c6x_cli_relocated.proofs.Came.{came}
 use Rattle.c6x_cli_relocated.proofs.Loaded.{modules_hold}
@@ -23,7 +22,7 @@ use Rattle.c6x_cli_exits.proofs.Performs.{not_done}
 use Rattle.c6x_cli_words.specs.declared.request.Request.{Request}
 use Rattle.c6x_cli_words.specs.declared.request.Request.TheVariants.{Map, Run}
 use Rattle.c6x_cli.specs.Meaning.{request_steps, steps_of}
-use Rattle.c6x_cli.specs.Relocating.{HoldsLinked, Relocates}
+use Rattle.c6x_cli.specs.Relocating.{Relocates}
 
 -- what was reported has another status than 0
 told :

@@ -1,3 +1,4 @@
 pub mod Serving
 pub mod Meaning
 pub mod Relocating
+pub mod Generating

@@ -1,5 +1,6 @@
 ghost use Rattle.std.specs.Prelude.{◌≡◌, ◌⊎◌, ℕ, All, IfOk, List, Ok, Option, Some, map};
 ghost use Rattle.c6x_spec.specs.Files.{Files};
+ghost use Rattle.c6x_cli.specs.Generating.{StopsForRoomAlone};
 ghost use Rattle.c6x_cli.specs.Meaning.{CanCommit, HasPolicy, asks, is_store, outcome_of, steps_of};
 ghost use Rattle.c6x_cli.specs.Relocating.{Relocates};
 ghost use Rattle.c6x_cli.specs.Serving.{EndsUsage, served};
@@ -18,6 +19,7 @@ use crate::prepared::Prepared;
 use crate::serving::serve;
 use c6x_base::Name;
 use c6x_board::Board;
+use c6x_cli_gen::generated_lacks_room_alone;
 use c6x_cli_steps::{Cause, CommitError, PrepareError, report_error, report_write_fault};
 use c6x_cli_words::{Request, parse_words};
 use c6x_ports::{Policy, Shelf, Sink};
@@ -82,7 +84,11 @@ pub fn command<S: Shelf, O: Sink, E: Sink>(
     ensures relocates { (read : Option Request) → IsReading words.items read
         → (told : Files) → (S.seen shelf.old).files ≡ Some told → result ≡ 0
         → Relocates (served read (map chooser policies.old.items)) told board.old board.new }
+
+    // No number that `gen` takes breaks a rule: where it stops, the board has too little room.
+    ensures generates { (told : Files) → StopsForRoomAlone told board.old }
 {
+    generated_lacks_room_alone();
     let _ = board.len();
     match request_of(alloc, words, policies) {
         Ok(Some(request)) => perform(alloc, request, shelf, out, err, board, policies),

@@ -1,5 +1,5 @@
 -- The fields of an executable are the words of its stubs, and share no byte with the table or with one another.
-use Rattle.std.proofs.Common.{◌≡◌, ℕ, zero, suc, ◌+◌, ◌*◌, ◌/◌, ◌%◌, ◌<◌, ◌≤◌, not, pos, false, List, [], ◌∷◌, ◌++◌, map, None, refl, ap, ◌∙◌, arith}
+use Rattle.std.proofs.Common.{◌≡◌, ℕ, zero, suc, ◌+◌, ◌*◌, ◌/◌, ◌%◌, ◌<◌, ◌≤◌, pos, false, List, [], ◌∷◌, ◌++◌, map, None, refl, ap, ◌∙◌, arith}
 use Rattle.std.specs.List.{enumerate_from, range_with_len}
 use Rattle.std.proofs.lemmas.Bool.Decides.{nat_tests}
 use Rattle.c6x_elf.specs.Types.{Rela}

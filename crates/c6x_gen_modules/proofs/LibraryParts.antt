@@ -58,12 +58,12 @@ is_function name s =
     && (s.value == TEXT_START && (s.size == 0 && (s.info == symbol_info Global STT_NOTYPE && (s.other == STV_DEFAULT && s.section == 1))))
 
 -- it and no other
-abbrev pub is_alone : List ℕ → List Shared → Bool
+abbrev is_alone : List ℕ → List Shared → Bool
 is_alone name [] = false
 is_alone name (s ∷ []) = is_function name s
 is_alone name (s ∷ t ∷ more) = false
 
-abbrev pub is_empty : List Rela → Bool
+abbrev is_empty : List Rela → Bool
 is_empty [] = true
 is_empty (r ∷ relas) = false
 

@@ -1,5 +1,5 @@
 -- What a link works out of the generated objects, as far as reading and binding ask for it.
-use Rattle.std.specs.Prelude.{◌≡◌, ℕ, ◌+◌, ◌*◌, ◌≤◌, min, true, false, pos, List, [], ◌∷◌, codes, length, map}
+use Rattle.std.specs.Prelude.{◌≡◌, ℕ, ◌+◌, ◌*◌, ◌≤◌, min, true, false, pos, List, [], ◌∷◌, codes, map}
 use Rattle.std.specs.List.{range_with_len}
 use Rattle.c6x_elf.specs.Abi.{SHN_UNDEF, STT_NOTYPE, STV_DEFAULT}
 use Rattle.c6x_elf.specs.Attributes.{symbol_info}

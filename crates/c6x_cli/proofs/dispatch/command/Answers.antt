@@ -1,6 +1,7 @@
 use Rattle.std.proofs.Common.{◌∙◌, sym, subst, []}
 use Rattle.c6x_cli_loads.proofs.LoadsRead.{linked_loads}
 use Rattle.c6x_cli_exits.proofs.Performs.{completes, exits_performed, keeps_performed, policies_performed, shows_performed}
+use Rattle.c6x_cli.proofs.Generated.{lacks_room}
 use Rattle.c6x_cli.proofs.Misread.{exits_misread, exits_unread, keeps_misread, policies_misread, policies_unread, shows_misread, shows_unread, stopped_misread, stopped_unread, usage_misread, usage_performed, usage_unread}
 use Rattle.c6x_cli.proofs.OutcomeKinds.{performs_read}
 use Rattle.c6x_cli.proofs.Relocated.{relocates}
@@ -101,3 +102,12 @@ returns-in-Err-clause-relocates g c = λ read is told tells zero.
     let exits = exits_unread _ told _ _ _ _
     (stopped_unread _ (g.S.Shelf.seen c.args.shelf.now) (g.O.Sink.seen c.args.out.now) _ _ c.args.board.now [] c.report_error-in-Err.ensures) in
     relocates _ told _ _ _ exits c.len.ensures.whole zero
+
+pub returns-in-Ok-Some-clause-generates : goal.returns-in-Ok-Some-clause-generates
+returns-in-Ok-Some-clause-generates g c = λ told. lacks_room c.generated_lacks_room_alone.ensures told c.args.board.now
+
+pub returns-in-Ok-None-clause-generates : goal.returns-in-Ok-None-clause-generates
+returns-in-Ok-None-clause-generates g c = λ told. lacks_room c.generated_lacks_room_alone.ensures told c.args.board.now
+
+pub returns-in-Err-clause-generates : goal.returns-in-Err-clause-generates
+returns-in-Err-clause-generates g c = λ told. lacks_room c.generated_lacks_room_alone.ensures told c.args.board.now
