@@ -14,6 +14,8 @@ mod generated;
 #[cfg(test)]
 mod images;
 #[cfg(test)]
+mod in_order;
+#[cfg(test)]
 mod lengths;
 #[cfg(test)]
 mod linked;

@@ -66,7 +66,7 @@ impl Row for TwoTold {
 }
 
 /// The report of those two processes, with these lines of turns.
-fn two_run(alloc: Global, turns: &str) -> Result<String, AllocError> {
+pub fn two_run(alloc: Global, turns: &str) -> Result<String, AllocError> {
     format!(in alloc;
         "text app 0x80000000 316\ntext libq.so 0x80000140 236\ndata a app 0x80000230 20\n\
         data a libq.so 0x80000248 20\nstack a 0x80000260 64\ndata b app 0x800002a0 20\n\

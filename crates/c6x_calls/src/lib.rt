@@ -5,7 +5,19 @@
 #![tactic(auto)]
 
 #[cfg(test)]
+mod areas;
+#[cfg(test)]
 mod assembling;
+#[cfg(test)]
+mod boards;
+#[cfg(test)]
+mod entries;
+#[cfg(test)]
+mod files;
+#[cfg(test)]
+mod generated;
+#[cfg(test)]
+mod images;
 #[cfg(test)]
 mod loads;
 #[cfg(test)]
@@ -13,6 +25,24 @@ mod long_texts;
 #[cfg(test)]
 mod objects;
 #[cfg(test)]
+mod owners;
+#[cfg(test)]
+mod packets;
+#[cfg(test)]
+mod plans;
+#[cfg(test)]
+mod policies;
+#[cfg(test)]
 mod refused_texts;
+#[cfg(test)]
+mod relocations;
+#[cfg(test)]
+mod rows;
+#[cfg(test)]
+mod shelves;
+#[cfg(test)]
+mod sinks;
+#[cfg(test)]
+mod tokens;
 #[cfg(test)]
 mod written_objects;

@@ -1,5 +1,6 @@
 ghost use Rattle.c6x_plan.specs.Limits.{IsRunPlan};
 
+use crate::images::plain_executable;
 use c6x_base::{Name, Side};
 use c6x_board::Board;
 use c6x_elf::read_file;
@@ -8,7 +9,6 @@ use c6x_load::{Loaded, load};
 use c6x_modules::Modules;
 use c6x_place::{bind, place};
 use c6x_plan::{RunPlan, read_plan};
-use c6x_reads::plain_executable;
 use std::alloc::Global;
 use std::test::Fail;
 

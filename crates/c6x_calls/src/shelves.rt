@@ -1,8 +1,8 @@
 ghost use Rattle.std.specs.Prelude.{◌≡◌, ◌<◌};
 
+use c6x_base::Name;
 use c6x_base::limits::MOST_FILE_BYTES;
-use c6x_base::{Bytes, Name};
-use c6x_ports::{DirShelf, MemoryShelf, Shelf, ShelfError, Stored};
+use c6x_ports::{DirShelf, MemoryShelf, Shelf, ShelfError};
 use std::alloc::{AllocError, Global};
 use std::test::Fail;
 use std::{env, fs};
@@ -29,13 +29,9 @@ fn takes<S: Shelf>(shelf: &mut S, alloc: Global, name: &Name, bytes: &[u8]) -> b
     shelf.store(alloc, name, bytes).is_ok()
 }
 
-/// A shelf of one file, whose calls 1 and 3 fail.
+/// An empty shelf, whose calls 2 and 4 fail.
 fn failing_shelf(alloc: Global) -> Result<MemoryShelf, AllocError> {
-    let file = Stored {
-        name: Name::from_bytes(alloc, b"one.plan")?,
-        bytes: Bytes::from_bytes(alloc, b"0123456789AB")?,
-    };
-    Ok(MemoryShelf::new(vec![in alloc; file]?, vec![in alloc; 1, 3]?))
+    Ok(MemoryShelf::new(Vec::new(alloc), Vec::from_slice(alloc, &[2, 4])?))
 }
 
 /// Whether the file of this name is one of these bytes.
@@ -50,6 +46,7 @@ fn a_shelf_in_memory(rt: HostRuntime) -> Result<(), Fail> {
     let plan = Name::from_bytes(alloc, b"one.plan")?;
     let app = Name::from_bytes(alloc, b"app.out")?;
     let mut shelf = failing_shelf(alloc)?;
+    assert!(&rt; takes(&mut shelf, alloc, &plan, b"0123456789AB"));
     assert!(&rt; fetched(&mut shelf, alloc, &plan, 9)?.as_slice() == b"0123456789".as_slice());
     assert!(&rt; fetched(&mut shelf, alloc, &plan, 9)?.as_slice() == b"F".as_slice());
     assert!(&rt; fetched(&mut shelf, alloc, &app, 9)?.as_slice() == b"M".as_slice());
@@ -67,7 +64,7 @@ fn files_of_the_system(rt: HostRuntime) -> Result<(), Fail> {
     let alloc = rt.alloc();
     let id = std::process::id(rt.process());
     let path = format!(in alloc;
-        "{}/c6x_floor_calls_{id}",
+        "{}/c6x_calls_{id}",
         env::temp_dir(&rt)?.as_path().display()
     )?;
     let name = Name::from_bytes(alloc, path.as_bytes())?;

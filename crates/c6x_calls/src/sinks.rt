@@ -12,7 +12,7 @@ fn takes<O: Sink>(sink: &mut O, piece: &[u8]) -> bool {
 
 /// A sink of five bytes, whose puts 1 and 2 fail where they have bytes, with nothing known of it.
 fn failing_sink(alloc: Global) -> Result<MemorySink, AllocError> {
-    MemorySink::new(alloc, 5, vec![in alloc; 1, 2]?)
+    MemorySink::new(alloc, 5, Vec::from_slice(alloc, &[1, 2])?)
 }
 
 #[test]
