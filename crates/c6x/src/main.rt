@@ -4,8 +4,7 @@
 use c6x_base::Name;
 use c6x_board::Board;
 use c6x_cli::command;
-use c6x_policy::{DrawnBySeed, LastFirst, Policy, RoundRobin};
-use c6x_ports::{DirShelf, ErrSink, OutSink, Sink};
+use c6x_ports::{DirShelf, DrawnBySeed, ErrSink, LastFirst, OutSink, Policy, RoundRobin, Sink};
 use std::alloc::AllocError;
 use std::env;
 use std::io::ErrorKind;

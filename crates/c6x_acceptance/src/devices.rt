@@ -3,8 +3,7 @@ ghost use Rattle.c6x_spec.specs.Memory.{CanStart};
 use c6x_base::Name;
 use c6x_board::Board;
 use c6x_cli::command;
-use c6x_policy::{DrawnBySeed, LastFirst, Policy, RoundRobin};
-use c6x_ports::{MemoryShelf, MemorySink, Shelf};
+use c6x_ports::{DrawnBySeed, LastFirst, MemoryShelf, MemorySink, Policy, RoundRobin, Shelf};
 use std::alloc::{AllocError, Global};
 
 /// The first address of each board.

@@ -3,7 +3,7 @@
 use crate::devices::{make_devices, words_of};
 use crate::plans::stores_two;
 use crate::turns::two_run;
-use c6x_policy::{Kind, Pick, Policy};
+use c6x_ports::{Kind, Pick, Policy};
 use std::alloc::AllocError;
 
 /// Picks the first process of the plan that has not ended, for whole turns.
@@ -26,7 +26,7 @@ impl InOrder {
 
 impl Policy for InOrder {
     ghost use Rattle.std.specs.Prelude.{[], ◌∷◌};
-    ghost use Rattle.c6x_policy.specs.declared.kind.Kind.TheVariants.{Other as other};
+    ghost use Rattle.c6x_ports.specs.declared.kind.Kind.TheVariants.{Other as other};
 
     ghost chooser = { λ s. record { kind = other; state = s.quantum ∷ []; last = s.last; answers = s.answers } };
 

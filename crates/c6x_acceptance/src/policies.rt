@@ -2,7 +2,7 @@ use crate::devices::{Devices, make_devices, words_of};
 use crate::images::{KNOWN, ONE_PLAN, bytes_of};
 use crate::plans::{TWO_RUN, stores_two};
 use crate::rows::{Row, first_wrong};
-use c6x_policy::{DrawnBySeed, Kind, LastFirst, Pick, Policy, RoundRobin};
+use c6x_ports::{DrawnBySeed, Kind, LastFirst, Pick, Policy, RoundRobin};
 use std::alloc::{AllocError, Global};
 
 /// What `run one.plan` puts, whoever picks.
@@ -48,7 +48,7 @@ impl FirstReady {
 
 impl Policy for FirstReady {
     ghost use Rattle.std.specs.Prelude.{[]};
-    ghost use Rattle.c6x_policy.specs.declared.kind.Kind.TheVariants.{Other as other};
+    ghost use Rattle.c6x_ports.specs.declared.kind.Kind.TheVariants.{Other as other};
 
     ghost chooser = { λ s. record { kind = other; state = []; last = s.last; answers = s.answers } };
 
@@ -87,7 +87,7 @@ impl NoProcess {
 
 impl Policy for NoProcess {
     ghost use Rattle.std.specs.Prelude.{[]};
-    ghost use Rattle.c6x_policy.specs.declared.kind.Kind.TheVariants.{Other as other};
+    ghost use Rattle.c6x_ports.specs.declared.kind.Kind.TheVariants.{Other as other};
 
     ghost chooser = { λ s. record { kind = other; state = []; last = s.last; answers = s.answers } };
 

@@ -2,7 +2,7 @@ use crate::devices::{Devices, make_devices, words_of};
 use crate::plans::stores_two;
 use crate::policies::stores_one;
 use crate::rows::{Row, first_wrong};
-use c6x_policy::{Kind, Pick, Policy};
+use c6x_ports::{Kind, Pick, Policy};
 use std::alloc::{AllocError, Global};
 
 /// `run` of one process with these words, and the lines of its turns.
@@ -126,7 +126,7 @@ impl Listed {
 
 impl Policy for Listed {
     ghost use Rattle.std.specs.Prelude.{[]};
-    ghost use Rattle.c6x_policy.specs.declared.kind.Kind.TheVariants.{Other as other};
+    ghost use Rattle.c6x_ports.specs.declared.kind.Kind.TheVariants.{Other as other};
 
     ghost chooser = { λ s. record { kind = other; state = []; last = s.last; answers = s.answers } };
 

@@ -7,12 +7,12 @@ use Rattle.c6x_asm_lines.specs.declared.line.Line.{Line}
 use Rattle.c6x_asm_lines.specs.declared.rule.AsmRule.{AsmRule}
 use Rattle.c6x_asm_object.specs.declared.object.Object.{Object}
 use Rattle.c6x_asm_object.specs.declared.asm_section.AsmSection.{AsmSection}
-use Rattle.c6x_asm_limits.specs.declared.summary.Summary.{Summary}
-use Rattle.c6x_asm_limits.specs.Sums.{AreBlocks, behind_line}
-use Rattle.c6x_asm_limits.proofs.Blocks.{blocks_pushed, blocks_same, blocks_set}
-use Rattle.c6x_asm_steps.specs.States.{Becomes, State, state_of}
-use Rattle.c6x_asm_steps.specs.Touching.{Touches}
-use Rattle.c6x_asm_steps.proofs.Touched.{stepped_touches}
+use Rattle.c6x_asm_object.specs.declared.summary.Summary.{Summary}
+use Rattle.c6x_asm_object.specs.Sums.{AreBlocks, behind_line}
+use Rattle.c6x_asm_object.proofs.Blocks.{blocks_pushed, blocks_same, blocks_set}
+use Rattle.c6x_asm.specs.States.{Becomes, State, state_of}
+use Rattle.c6x_asm.specs.Touching.{Touches}
+use Rattle.c6x_asm.proofs.Touched.{stepped_touches}
 use Rattle.c6x_asm.specs.Lines.{read_line}
 
 -- a line that breaks no rule touches one section at most

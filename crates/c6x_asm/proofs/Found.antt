@@ -9,17 +9,17 @@ use Rattle.c6x_asm_lines.specs.declared.line.Line.{Line}
 use Rattle.c6x_asm_lines.specs.declared.line.Statement.{Statement}
 use Rattle.c6x_asm_lines.specs.declared.rule.AsmRule.{AsmRule}
 use Rattle.c6x_asm_lines.specs.declared.rule.AsmRule.TheVariants.{Syntax}
-use Rattle.c6x_asm_grammar.specs.Spelling.{SpellsLine}
+use Rattle.c6x_asm_lines.specs.Spelling.{SpellsLine}
 use Rattle.c6x_asm_object.specs.declared.asm_section.AsmSection.{AsmSection}
 use Rattle.c6x_asm_object.specs.declared.instr_word.InstrWord.{InstrWord}
 use Rattle.c6x_asm_object.specs.Named.{section_name, section_names}
 use Rattle.c6x_asm_object.specs.Sections.{no_section, section_at}
-use Rattle.c6x_asm_meaning.specs.Breaking.{BreakNone, one_passes, none_left, BreaksLine, by_statement, by_instruction, wrong_place, joins_nothing, EndsHere, GoesTo, MisplacesInstruction}
-use Rattle.c6x_asm_meaning.specs.Said.{Saying, says_nothing, says_directive, says_instruction, Said, Says, nothing_said, directive_said, instruction_said, TheySay, no_lines, a_line}
-use Rattle.c6x_asm_meaning.specs.Sections.{behind_line, behind_lines, end_at, is_among, is_here, last_end, later_or, lines_in, size_at, word_said, words_in}
-use Rattle.c6x_asm_meaning.proofs.Firsts.{found_among}
-use Rattle.c6x_asm_meaning.proofs.Grown.{words_push}
-use Rattle.c6x_asm_meaning.proofs.Lined.{IsMeant, lines_push, name_of}
+use Rattle.c6x_asm.specs.Breaking.{BreakNone, one_passes, none_left, BreaksLine, by_statement, by_instruction, wrong_place, joins_nothing, EndsHere, GoesTo, MisplacesInstruction}
+use Rattle.c6x_asm.specs.Said.{Saying, says_nothing, says_directive, says_instruction, Said, Says, nothing_said, directive_said, instruction_said, TheySay, no_lines, a_line}
+use Rattle.c6x_asm.specs.Sections.{behind_line, behind_lines, end_at, is_among, is_here, last_end, later_or, lines_in, size_at, word_said, words_in}
+use Rattle.c6x_asm.proofs.Firsts.{found_among}
+use Rattle.c6x_asm.proofs.Grown.{words_push}
+use Rattle.c6x_asm.proofs.Lined.{IsMeant, lines_push, name_of}
 use Rattle.c6x_asm.specs.Groups.{BreaksPacket, IsApart, IsPacketOf}
 use Rattle.c6x_asm.specs.Packets.{first_bad}
 use Rattle.c6x_asm.specs.Reading.{bad_line, lower_line}

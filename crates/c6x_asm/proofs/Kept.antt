@@ -11,14 +11,14 @@ use Rattle.c6x_elf.specs.Names.{name_table}
 use Rattle.c6x_elf.specs.Parts.{has_bytes}
 use Rattle.c6x_elf.specs.Rows.{half_bytes, word_bytes}
 use Rattle.c6x_elf.specs.Writing.{offset_end, written_size}
-use Rattle.c6x_asm_form.specs.Filing.{file_of, named_sections, named_shstrtab, named_strtab, named_symtab, sections_of}
-use Rattle.c6x_asm_form.specs.Headers.{null_section, table_section}
-use Rattle.c6x_asm_form.specs.Limits.{is_large, is_long, passes_limit}
-use Rattle.c6x_asm_form.specs.Symbols.{entries, names_table, ordered, symbol_numbers, symbol_table}
-use Rattle.c6x_asm_steps.specs.States.{State}
-use Rattle.c6x_asm_steps.specs.Keeping.{IsStateSound}
-use Rattle.c6x_asm_steps.proofs.Steps.{stepped_sound}
-use Rattle.c6x_asm_steps.proofs.Runs.{sound_begins}
+use Rattle.c6x_asm_object.specs.Filing.{file_of, named_sections, named_shstrtab, named_strtab, named_symtab, sections_of}
+use Rattle.c6x_asm_object.specs.Headers.{null_section, table_section}
+use Rattle.c6x_asm_object.specs.Limits.{is_large, is_long, passes_limit}
+use Rattle.c6x_asm_object.specs.FormSymbols.{entries, names_table, ordered, symbol_numbers, symbol_table}
+use Rattle.c6x_asm.specs.States.{State}
+use Rattle.c6x_asm.specs.Keeping.{IsStateSound}
+use Rattle.c6x_asm.proofs.Steps.{stepped_sound}
+use Rattle.c6x_asm.proofs.Runs.{sound_begins}
 use Rattle.c6x_asm.specs.declared.broken.Broken.{Broken}
 use Rattle.c6x_asm.specs.Lines.{after_lines, counted, lined, lines_of, or_broken, read_line, sized}
 use Rattle.c6x_asm.specs.Reading.{bad_line, before, ended, nothing, or_packet, read_lines, read_of, read_tokens, stopped}

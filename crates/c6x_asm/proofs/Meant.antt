@@ -11,21 +11,21 @@ use Rattle.c6x_asm_lines.specs.declared.rule.AsmRule.{AsmRule}
 use Rattle.c6x_asm_lines.specs.declared.rule.AsmRule.TheVariants.{BadByte, Syntax, Packet, Large}
 use Rattle.c6x_asm_lines.specs.Rules.{number_of}
 use Rattle.c6x_asm_lines.specs.Grammar.{line_of}
-use Rattle.c6x_asm_grammar.proofs.Lines.{one_line, unspelled}
-use Rattle.c6x_asm_grammar.proofs.Spelled.{line_spelled}
+use Rattle.c6x_asm_lines.proofs.SpelledLines.{one_line, unspelled}
+use Rattle.c6x_asm_lines.proofs.Spelled.{line_spelled}
 use Rattle.c6x_asm_object.specs.declared.object.Object.{Object}
-use Rattle.c6x_asm_form.specs.Filing.{file_of}
-use Rattle.c6x_asm_form.specs.Limits.{is_large}
-use Rattle.c6x_asm_steps.specs.Lines.{stepped}
-use Rattle.c6x_asm_steps.specs.States.{State, state_of}
-use Rattle.c6x_asm_meaning.specs.Breaking.{BreakNone, none_left, one_passes, BreaksLabel, BreaksLine, unread, by_label, by_statement, BreaksStatement}
-use Rattle.c6x_asm_meaning.specs.Said.{Saying, Said, Says, TheySay, no_lines, a_line}
-use Rattle.c6x_asm_meaning.proofs.Broken.{BreaksParts, IsOverfull, stepped_judged}
-use Rattle.c6x_asm_meaning.proofs.Least.{Holds, IsLowest, Judges, judges_limit, judges_same}
-use Rattle.c6x_asm_meaning.proofs.Lined.{IsMeant}
-use Rattle.c6x_asm_meaning.proofs.Fulfilled.{IsWhole, stepped_whole}
-use Rattle.c6x_asm_meaning.proofs.Stepped.{IsSaidBy, stepped_meant}
-use Rattle.c6x_asm_meaning.proofs.Whole.{meant_begins, meant_sections, whole_begins, whole_relocations, whole_symbols}
+use Rattle.c6x_asm_object.specs.Filing.{file_of}
+use Rattle.c6x_asm_object.specs.Limits.{is_large}
+use Rattle.c6x_asm.specs.StepLines.{stepped}
+use Rattle.c6x_asm.specs.States.{State, state_of}
+use Rattle.c6x_asm.specs.Breaking.{BreakNone, none_left, one_passes, BreaksLabel, BreaksLine, unread, by_label, by_statement, BreaksStatement}
+use Rattle.c6x_asm.specs.Said.{Saying, Said, Says, TheySay, no_lines, a_line}
+use Rattle.c6x_asm.proofs.BrokenRules.{BreaksParts, IsOverfull, stepped_judged}
+use Rattle.c6x_asm.proofs.Least.{Holds, IsLowest, Judges, judges_limit, judges_same}
+use Rattle.c6x_asm.proofs.Lined.{IsMeant}
+use Rattle.c6x_asm.proofs.Fulfilled.{IsWhole, stepped_whole}
+use Rattle.c6x_asm.proofs.Stepped.{IsSaidBy, stepped_meant}
+use Rattle.c6x_asm.proofs.Whole.{meant_begins, meant_sections, whole_begins, whole_relocations, whole_symbols}
 use Rattle.c6x_asm.specs.declared.asm_error.AsmError.{AsmError}
 use Rattle.c6x_asm.specs.declared.asm_error.AsmError.TheVariants.{Rule, NoMemory}
 use Rattle.c6x_asm.specs.declared.broken.Broken.{Broken}

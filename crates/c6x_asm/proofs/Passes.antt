@@ -9,7 +9,7 @@ use Rattle.c6x_asm_lines.specs.declared.lexeme.Lexeme.{Lexeme}
 use Rattle.c6x_asm_lines.specs.Lexemes.{lexeme_of, lexemes_by_line, with_lexeme}
 use Rattle.c6x_asm_lines.specs.declared.rule.AsmRule.{AsmRule}
 use Rattle.c6x_asm_object.specs.declared.object.Object.{Object}
-use Rattle.c6x_asm_steps.specs.States.{State}
+use Rattle.c6x_asm.specs.States.{State}
 use Rattle.c6x_asm.specs.declared.broken.Broken.{Broken}
 use Rattle.c6x_asm.specs.Lines.{after_lines, ends_in_newline, front, lined, lines_of, or_broken}
 use Rattle.c6x_asm.specs.Running.{Completes, Left, and_last, is_end, left, on_lexeme, or_stop, run_from, state_left}

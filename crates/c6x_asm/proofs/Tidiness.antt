@@ -2,11 +2,11 @@
 use Rattle.std.proofs.Common.{◌≡◌, ℕ, false, List, Ok}
 use Rattle.c6x_elf.specs.Form.{IsTidy}
 use Rattle.c6x_asm_object.specs.declared.object.Object.{Object}
-use Rattle.c6x_asm_form.specs.Filing.{file_of}
-use Rattle.c6x_asm_form.proofs.Tidy.{tidy}
-use Rattle.c6x_asm_file.specs.Fitting.{FitsFields}
-use Rattle.c6x_asm_file.proofs.Fits.{fits}
-use Rattle.c6x_asm_steps.specs.States.{state_of}
+use Rattle.c6x_asm_object.specs.Filing.{file_of}
+use Rattle.c6x_asm_object.proofs.Tidy.{tidy}
+use Rattle.c6x_asm_object.specs.Fitting.{FitsFields}
+use Rattle.c6x_asm_object.proofs.Fits.{fits}
+use Rattle.c6x_asm.specs.States.{state_of}
 use Rattle.c6x_asm.specs.Reading.{read_of}
 use Rattle.c6x_asm.proofs.Kept.{read_kept}
 

@@ -1,8 +1,8 @@
 -- The packets of a text, by what its lines say (docs/ASSEMBLY.md, "Packets").
 use Rattle.std.specs.Prelude.{◌≡◌, ℕ, true, false, List, [], ◌∷◌, ◌++◌, map, None}
 use Rattle.c6x_asm_object.specs.declared.instr_word.InstrWord.{InstrWord}
-use Rattle.c6x_asm_meaning.specs.Said.{Said}
-use Rattle.c6x_asm_meaning.specs.Sections.{is_among, lines_in, names_of_sections, words_in}
+use Rattle.c6x_asm.specs.Said.{Said}
+use Rattle.c6x_asm.specs.Sections.{is_among, lines_in, names_of_sections, words_in}
 use Rattle.c6x_asm.specs.Packets.{is_packet}
 
 -- `||` stands before each

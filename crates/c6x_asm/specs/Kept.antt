@@ -1,8 +1,8 @@
 -- What is true of the sections and symbols of a text that breaks no rule.
 use Rattle.std.specs.Prelude.{◌≡◌, ℕ, false, List}
-use Rattle.c6x_asm_form.specs.Limits.{is_large}
-use Rattle.c6x_asm_steps.specs.States.{State}
-use Rattle.c6x_asm_steps.specs.Keeping.{IsStateSound}
+use Rattle.c6x_asm_object.specs.Limits.{is_large}
+use Rattle.c6x_asm.specs.States.{State}
+use Rattle.c6x_asm.specs.Keeping.{IsStateSound}
 
 pub record IsKept (text : List ℕ) (s : State) : Type 0 where
   pub sound : IsStateSound s

@@ -1,3 +1,14 @@
+pub mod States
+pub mod Directives
+pub mod Instructions
+pub mod StepLines
+pub mod Keeping
+pub mod Touching
+pub mod Said
+pub mod Sections
+pub mod Relocations
+pub mod Symbols
+pub mod Breaking
 pub mod AsmRule
 pub mod Objects
 pub mod Lines

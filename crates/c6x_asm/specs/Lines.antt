@@ -7,9 +7,9 @@ use Rattle.c6x_asm_lines.specs.Grammar.{line_of}
 use Rattle.c6x_asm_lines.specs.Lexemes.{lexemes_by_line}
 use Rattle.c6x_asm_lines.specs.declared.rule.AsmRule.{AsmRule}
 use Rattle.c6x_asm_lines.specs.declared.rule.AsmRule.TheVariants.{Syntax, Large}
-use Rattle.c6x_asm_form.specs.Limits.{is_large}
-use Rattle.c6x_asm_steps.specs.States.{State}
-use Rattle.c6x_asm_steps.specs.Lines.{stepped}
+use Rattle.c6x_asm_object.specs.Limits.{is_large}
+use Rattle.c6x_asm.specs.States.{State}
+use Rattle.c6x_asm.specs.StepLines.{stepped}
 use Rattle.c6x_asm.specs.declared.broken.Broken.{Broken}
 
 -- a line's number may not pass 65,536

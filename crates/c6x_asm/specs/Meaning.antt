@@ -9,9 +9,9 @@ use Rattle.c6x_asm_lines.specs.declared.rule.AsmRule.TheVariants.{BadByte, Packe
 use Rattle.c6x_elf.specs.declared.file.File.{File}
 use Rattle.c6x_asm_object.specs.declared.asm_section.AsmSection.{AsmSection}
 use Rattle.c6x_asm_object.specs.declared.symbol.Symbol.{Symbol}
-use Rattle.c6x_asm_form.specs.Filing.{file_of}
-use Rattle.c6x_asm_meaning.specs.Breaking.{BreaksLine, IsLowestOf}
-use Rattle.c6x_asm_meaning.specs.Said.{Said, TheySay}
+use Rattle.c6x_asm_object.specs.Filing.{file_of}
+use Rattle.c6x_asm.specs.Breaking.{BreaksLine, IsLowestOf}
+use Rattle.c6x_asm.specs.Said.{Said, TheySay}
 use Rattle.c6x_asm.specs.declared.asm_error.AsmError.{AsmError}
 use Rattle.c6x_asm.specs.declared.asm_error.AsmError.TheVariants.{Rule, NoMemory}
 use Rattle.c6x_asm.specs.declared.broken.Broken.{Broken}

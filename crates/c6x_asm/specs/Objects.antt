@@ -1,8 +1,8 @@
 -- The object of a text.
 use Rattle.std.specs.Prelude.{◌≡◌, ℕ, List, Result, Ok, Err}
 use Rattle.c6x_elf.specs.declared.file.File.{File}
-use Rattle.c6x_asm_form.specs.Filing.{file_of}
-use Rattle.c6x_asm_steps.specs.States.{State}
+use Rattle.c6x_asm_object.specs.Filing.{file_of}
+use Rattle.c6x_asm.specs.States.{State}
 use Rattle.c6x_asm.specs.declared.asm_error.AsmError.{AsmError}
 use Rattle.c6x_asm.specs.declared.asm_error.AsmError.TheVariants.{Rule, NoMemory}
 use Rattle.c6x_asm.specs.declared.broken.Broken.{Broken}

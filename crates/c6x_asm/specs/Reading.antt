@@ -7,7 +7,7 @@ use Rattle.c6x_asm_lines.specs.declared.rule.AsmRule.TheVariants.{BadByte, Packe
 use Rattle.c6x_asm_object.specs.declared.object.Object.{Object}
 use Rattle.c6x_asm_object.specs.declared.asm_section.AsmSection.{AsmSection}
 use Rattle.c6x_asm.specs.Packets.{first_bad}
-use Rattle.c6x_asm_steps.specs.States.{State, state_of}
+use Rattle.c6x_asm.specs.States.{State, state_of}
 use Rattle.c6x_asm.specs.declared.asm_error.AsmError.{AsmError}
 use Rattle.c6x_asm.specs.declared.asm_error.AsmError.TheVariants.{Rule, NoMemory}
 use Rattle.c6x_asm.specs.declared.broken.Broken.{Broken}

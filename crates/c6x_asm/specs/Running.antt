@@ -5,7 +5,7 @@ use Rattle.c6x_asm_lines.specs.declared.lexeme.Lexeme.{Lexeme}
 use Rattle.c6x_asm_lines.specs.Lexemes.{lexeme_of}
 use Rattle.c6x_asm_lines.specs.declared.rule.AsmRule.{AsmRule}
 use Rattle.c6x_asm_object.specs.declared.object.Object.{Object}
-use Rattle.c6x_asm_steps.specs.States.{State, state_of}
+use Rattle.c6x_asm.specs.States.{State, state_of}
 use Rattle.c6x_asm.specs.declared.broken.Broken.{Broken}
 use Rattle.c6x_asm.specs.Lines.{ends_in_newline, lined, or_broken}
 

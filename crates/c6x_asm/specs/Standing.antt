@@ -3,12 +3,12 @@ use Rattle.std.specs.Prelude.{◌≡◌, ℕ, ◌<◌, ◌≤◌, ◌⊎◌, tru
 use Rattle.c6x_asm_lines.specs.declared.lexeme.Lexeme.{Lexeme}
 use Rattle.c6x_asm_object.specs.declared.asm_section.AsmSection.{AsmSection}
 use Rattle.c6x_asm_object.specs.declared.symbol.Symbol.{Symbol}
-use Rattle.c6x_asm_form.specs.Limits.{is_large}
-use Rattle.c6x_asm_meaning.specs.Breaking.{BreakNone, Overfills}
-use Rattle.c6x_asm_meaning.specs.Said.{Said, TheySay}
-use Rattle.c6x_asm_meaning.specs.Relocations.{HaveRelocations}
-use Rattle.c6x_asm_meaning.specs.Sections.{AreSectionsOf}
-use Rattle.c6x_asm_meaning.specs.Symbols.{AreSymbolsOf}
+use Rattle.c6x_asm_object.specs.Limits.{is_large}
+use Rattle.c6x_asm.specs.Breaking.{BreakNone, Overfills}
+use Rattle.c6x_asm.specs.Said.{Said, TheySay}
+use Rattle.c6x_asm.specs.Relocations.{HaveRelocations}
+use Rattle.c6x_asm.specs.Sections.{AreSectionsOf}
+use Rattle.c6x_asm.specs.Symbols.{AreSymbolsOf}
 
 -- the sections and symbols of lines
 pub record AreMadeOf (text : List ℕ) (said : List Said) (sections : List AsmSection) (symbols : List Symbol) : Type 0 where

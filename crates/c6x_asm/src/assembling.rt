@@ -1,12 +1,12 @@
 ghost use Rattle.std.specs.Prelude.{◌^◌, false, ◌<◌, length, IfOk};
 ghost use Rattle.c6x_elf.specs.Form.{IsTidy};
-ghost use Rattle.c6x_asm_steps.specs.States.{state_of};
+ghost use Rattle.c6x_asm.specs.States.{state_of};
 ghost use Rattle.c6x_asm.specs.Meaning.{IsObjectOf, Refuses};
 ghost use Rattle.c6x_asm.specs.Objects.{Answers, assembled};
 
 use crate::asm_error::AsmError;
 use crate::reading::read;
-use c6x_asm_file::file_of;
+use c6x_asm_object::file_of;
 use c6x_elf::File;
 use std::alloc::Global;
 

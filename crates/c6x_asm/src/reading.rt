@@ -1,6 +1,6 @@
 ghost use Rattle.std.specs.Prelude.{◌≡◌, ◌^◌, ◌<◌, [], None, Some, Err, IfOk, length};
 ghost use Rattle.c6x_lex.specs.Tokens.{AreSpans, tokens_of};
-ghost use Rattle.c6x_asm_steps.specs.States.{State, state_of, IsSound};
+ghost use Rattle.c6x_asm.specs.States.{State, state_of, IsSound};
 ghost use Rattle.c6x_asm.specs.Lines.{after_lines, lines_of};
 ghost use Rattle.c6x_asm.specs.Running.{Completes, and_last, last_lined, left, run_from, state_left};
 ghost use Rattle.c6x_asm.specs.Reading.{lower_line, bad_line, before, nothing, stopped, read_lines, read_of, Reads};
@@ -9,9 +9,8 @@ use crate::asm_error::AsmError;
 use crate::broken::Broken;
 use crate::checking::first_bad;
 use crate::running::{add_line, ends_in_newline, run};
-use c6x_asm_limits::Outline;
 use c6x_asm_lines::{AsmRule, Lexeme};
-use c6x_asm_object::{AsmSection, Object};
+use c6x_asm_object::{AsmSection, Object, Outline};
 use c6x_lex::{LexError, Token, lex};
 use std::alloc::{AllocError, Global};
 

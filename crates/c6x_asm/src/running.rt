@@ -1,27 +1,26 @@
 ghost use Rattle.std.specs.Prelude.{◌≡◌, ℕ, ◌+◌, ◌^◌, ◌<◌, ◌≤◌, if◌then◌else◌, false, List, ◌∷◌, Option, Some, None, IfOk, OnOk, length};
 ghost use Rattle.c6x_lex.specs.Tokens.{AreSpans};
 ghost use Rattle.c6x_lex.specs.declared.token.Token.{Token};
-ghost use Rattle.c6x_asm_form.specs.Limits.{is_large};
+ghost use Rattle.c6x_asm_object.specs.Limits.{is_large};
 ghost use Rattle.c6x_asm_lines.specs.declared.rule.AsmRule.TheVariants.{Large};
-ghost use Rattle.c6x_asm_steps.specs.States.{State, state_of, IsSound, Becomes};
+ghost use Rattle.c6x_asm.specs.States.{State, state_of, IsSound, Becomes};
 ghost use Rattle.c6x_asm_lines.specs.Grammar.{line_of};
-ghost use Rattle.c6x_asm_limits.specs.Sums.{AreBlocks};
+ghost use Rattle.c6x_asm_object.specs.Sums.{AreBlocks};
 ghost use Rattle.c6x_asm.specs.Lines.{counted, sized, read_line, lined, ends_in_newline};
 ghost use Rattle.c6x_asm.specs.Running.{is_end, run_from, Runs, Goes};
 
 use crate::broken::Broken;
-use c6x_asm_limits::{Outline, is_large};
+use crate::lines::step;
 use c6x_asm_lines::{AsmRule, Lexeme, Line, lexeme_of};
-use c6x_asm_object::Object;
-use c6x_asm_steps::step;
+use c6x_asm_object::{Object, Outline, is_large};
 use c6x_lex::Token;
 use std::alloc::{AllocError, Global};
 
-#[tactic(auto, using(c6x_asm_grammar::proofs::Readings::read_as_spelled))]
+#[tactic(auto, using(c6x_asm_lines::proofs::Readings::read_as_spelled))]
 fn spelled_line(alloc: Global, lexemes: &[Lexeme]) -> Result<Option<Line>, AllocError>
     ensures { IfOk result (λ line. line ≡ line_of lexemes.now) }
 {
-    let line = c6x_asm_grammar::read_line(alloc, lexemes)?;
+    let line = c6x_asm_lines::read_line(alloc, lexemes)?;
     Ok(line)
 }
 

@@ -3,21 +3,21 @@ use Rattle.std.specs.Prelude.{ℕ, ◌==◌, Bool, true, false, not, ◌&&◌, �
 use Rattle.std.specs.Option.{is_some}
 use Rattle.c6x_base.specs.declared.side.Side.{Side}
 use Rattle.c6x_base.specs.declared.side.Side.TheVariants.{A, B}
-use Rattle.c6x_instr.specs.declared.access.Access.{Access}
-use Rattle.c6x_instr.specs.declared.access.Access.TheVariants.{Stb, Sth, Stw}
-use Rattle.c6x_instr.specs.declared.arith.Arith.{Arith}
-use Rattle.c6x_instr.specs.declared.arith.Arith.TheVariants.{Shl, Shr, Shru}
-use Rattle.c6x_instr.specs.declared.cond.Cond.{Cond}
-use Rattle.c6x_instr.specs.declared.cond.Cond.TheVariants.{Always, If}
-use Rattle.c6x_instr.specs.declared.first.First.{First}
-use Rattle.c6x_instr.specs.declared.first.First.TheVariants.{Register as FirstRegister, Constant as FirstConstant}
-use Rattle.c6x_instr.specs.declared.move_kind.MoveKind.{MoveKind}
-use Rattle.c6x_instr.specs.declared.move_kind.MoveKind.TheVariants.{Mvk, Mvkh, Addk}
-use Rattle.c6x_instr.specs.declared.op.Op.{Op}
-use Rattle.c6x_instr.specs.declared.op.Op.TheVariants.{Two as TwoOp, Move as MoveOp, Branch as BranchOp, Callp as CallpOp, BranchNop as BranchNopOp, BranchReg as BranchRegOp, BranchRegNop as BranchRegNopOp, AddKpc as AddKpcOp, Nop as NopOp, Short as ShortOp, Long as LongOp}
-use Rattle.c6x_instr.specs.declared.unit_kind.UnitKind.{UnitKind}
-use Rattle.c6x_instr.specs.declared.unit_kind.UnitKind.TheVariants.{S, D}
-use Rattle.c6x_instr.specs.Values.{size_of}
+use Rattle.c6x_encoding.specs.declared.access.Access.{Access}
+use Rattle.c6x_encoding.specs.declared.access.Access.TheVariants.{Stb, Sth, Stw}
+use Rattle.c6x_encoding.specs.declared.arith.Arith.{Arith}
+use Rattle.c6x_encoding.specs.declared.arith.Arith.TheVariants.{Shl, Shr, Shru}
+use Rattle.c6x_encoding.specs.declared.cond.Cond.{Cond}
+use Rattle.c6x_encoding.specs.declared.cond.Cond.TheVariants.{Always, If}
+use Rattle.c6x_encoding.specs.declared.first.First.{First}
+use Rattle.c6x_encoding.specs.declared.first.First.TheVariants.{Register as FirstRegister, Constant as FirstConstant}
+use Rattle.c6x_encoding.specs.declared.move_kind.MoveKind.{MoveKind}
+use Rattle.c6x_encoding.specs.declared.move_kind.MoveKind.TheVariants.{Mvk, Mvkh, Addk}
+use Rattle.c6x_encoding.specs.declared.op.Op.{Op}
+use Rattle.c6x_encoding.specs.declared.op.Op.TheVariants.{Two as TwoOp, Move as MoveOp, Branch as BranchOp, Callp as CallpOp, BranchNop as BranchNopOp, BranchReg as BranchRegOp, BranchRegNop as BranchRegNopOp, AddKpc as AddKpcOp, Nop as NopOp, Short as ShortOp, Long as LongOp}
+use Rattle.c6x_encoding.specs.declared.unit_kind.UnitKind.{UnitKind}
+use Rattle.c6x_encoding.specs.declared.unit_kind.UnitKind.TheVariants.{S, D}
+use Rattle.c6x_encoding.specs.Values.{size_of}
 use Rattle.c6x_encoding.specs.Encoded.{two_code}
 use Rattle.c6x_reloc.specs.declared.reloc_kind.RelocKind.TheVariants.{PCR_S21, PCR_S12, PCR_S7, ABS_S16, ABS_H16}
 use Rattle.c6x_asm_lines.specs.declared.statement_head.StatementHead.{StatementHead}
@@ -26,22 +26,22 @@ use Rattle.c6x_asm_lines.specs.declared.operand.Operand.TheVariants.{Value as Va
 use Rattle.c6x_asm_lines.specs.declared.primary.Primary.TheVariants.{Register as PrimaryRegister, Number as PrimaryNumber}
 use Rattle.c6x_asm_lines.specs.declared.value.Value.TheVariants.{Primary as PrimaryValue}
 use Rattle.c6x_asm_lines.specs.declared.word.Word.{Word}
-use Rattle.c6x_asm_operands.specs.declared.relocatable.Field.{Field}
-use Rattle.c6x_asm_operands.specs.declared.relocatable.RelocatableOp.{RelocatableOp}
-use Rattle.c6x_asm_operands.specs.declared.mnemonic.Mnemonic.{Mnemonic}
-use Rattle.c6x_asm_operands.specs.declared.mnemonic.Mnemonic.TheVariants.{Two, Move, B as BranchTo, Bnop, Callp, AddKpc, Nop, Memory}
-use Rattle.c6x_asm_operands.specs.declared.data_path.DataPath.{DataPath}
-use Rattle.c6x_asm_operands.specs.declared.data_path.DataPath.TheVariants.{Own, Cross, Value as ValuePath}
-use Rattle.c6x_asm_operands.specs.declared.place.Place.{Place}
-use Rattle.c6x_asm_operands.specs.declared.place.Place.TheVariants.{Short, Long}
-use Rattle.c6x_asm_operands.specs.declared.range.Range.{Range}
+use Rattle.c6x_asm_lines.specs.declared.relocatable.Field.{Field}
+use Rattle.c6x_asm_lines.specs.declared.relocatable.RelocatableOp.{RelocatableOp}
+use Rattle.c6x_asm_lines.specs.declared.mnemonic.Mnemonic.{Mnemonic}
+use Rattle.c6x_asm_lines.specs.declared.mnemonic.Mnemonic.TheVariants.{Two, Move, B as BranchTo, Bnop, Callp, AddKpc, Nop, Memory}
+use Rattle.c6x_asm_lines.specs.declared.data_path.DataPath.{DataPath}
+use Rattle.c6x_asm_lines.specs.declared.data_path.DataPath.TheVariants.{Own, Cross, Value as ValuePath}
+use Rattle.c6x_asm_lines.specs.declared.place.Place.{Place}
+use Rattle.c6x_asm_lines.specs.declared.place.Place.TheVariants.{Short, Long}
+use Rattle.c6x_asm_lines.specs.declared.range.Range.{Range}
 use Rattle.c6x_asm_lines.specs.declared.rule.AsmRule.{AsmRule}
 use Rattle.c6x_asm_lines.specs.declared.rule.AsmRule.TheVariants.{Syntax, UnknownWord, Operand as BadOperand}
-use Rattle.c6x_asm_operands.specs.declared.unit.Unit.{Unit}
-use Rattle.c6x_asm_operands.specs.Addresses.{place_of}
-use Rattle.c6x_asm_operands.specs.Names.{mnemonic_of, unit_of}
-use Rattle.c6x_asm_operands.specs.Numbers.{number_in, range_of}
-use Rattle.c6x_asm_operands.specs.Operands.{same_side, register_on, register_operand, constant_operand, field_operand}
+use Rattle.c6x_asm_lines.specs.declared.unit.Unit.{Unit}
+use Rattle.c6x_asm_lines.specs.Addresses.{place_of}
+use Rattle.c6x_asm_lines.specs.OperandNames.{mnemonic_of, unit_of}
+use Rattle.c6x_asm_lines.specs.Numbers.{number_in, range_of}
+use Rattle.c6x_asm_lines.specs.OperandValues.{same_side, register_on, register_operand, constant_operand, field_operand}
 use Rattle.c6x_asm_lines.specs.Bytes.{bytes_at}
 use Rattle.c6x_asm_lines.specs.Rules.{both}
 use Rattle.c6x_spec.specs.Results.{◌>>=◌}

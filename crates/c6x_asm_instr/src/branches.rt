@@ -2,12 +2,12 @@ ghost use Rattle.std.specs.Prelude.{◌≡◌, ◌<◌, ◌≤◌, IfOk};
 ghost use Rattle.c6x_asm_instr.specs.Instructions.{is_register, target_register, takes_register, branch_of, branch_nop_of, link_register, callp_of, add_kpc_of, nop_of};
 
 use crate::units::is_cross;
-use c6x_asm_lines::{AsmRule, Operand, Primary, Value, both};
-use c6x_asm_operands::{
-    Range, RelocatableOp, Unit, constant_operand, field_operand, register_operand, same_side,
+use c6x_asm_lines::{
+    AsmRule, Operand, Primary, Range, RelocatableOp, Unit, Value, both, constant_operand,
+    field_operand, register_operand, same_side,
 };
 use c6x_base::Side;
-use c6x_instr::Op;
+use c6x_encoding::Op;
 use c6x_reloc::RelocKind;
 
 const FAR: Range = Range {

@@ -5,10 +5,12 @@ use crate::branches::{add_kpc_of, branch_nop_of, branch_of, callp_of, nop_of};
 use crate::memory::memory_on;
 use crate::operations::{move_of, two_of};
 use crate::units::{has_form, is_cross, is_d, is_own, is_s, names_value};
-use c6x_asm_lines::{AsmRule, Operand, StatementHead, Word, bytes_at};
-use c6x_asm_operands::{Mnemonic, RelocatableOp, Unit, mnemonic_of, same_side, unit_of};
+use c6x_asm_lines::{
+    AsmRule, Mnemonic, Operand, RelocatableOp, StatementHead, Unit, Word, bytes_at, mnemonic_of,
+    same_side, unit_of,
+};
 use c6x_base::Side;
-use c6x_instr::Cond;
+use c6x_encoding::Cond;
 
 fn has_count(mnemonic: Mnemonic, count: usize) -> bool
     ensures { result ≡ has_count mnemonic count }

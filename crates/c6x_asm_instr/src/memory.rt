@@ -1,11 +1,12 @@
 ghost use Rattle.std.specs.Prelude.{◌≡◌, ◌≤◌};
-ghost use Rattle.c6x_instr.specs.Values.{size_of};
+ghost use Rattle.c6x_encoding.specs.Values.{size_of};
 ghost use Rattle.c6x_asm_instr.specs.Instructions.{is_store, memory_made, memory_with, memory_on};
 
-use c6x_asm_lines::{AsmRule, Operand, both};
-use c6x_asm_operands::{DataPath, Place, RelocatableOp, place_of, register_operand};
+use c6x_asm_lines::{
+    AsmRule, DataPath, Operand, Place, RelocatableOp, both, place_of, register_operand,
+};
 use c6x_base::Side;
-use c6x_instr::{Access, Op};
+use c6x_encoding::{Access, Op};
 
 /// How many bytes a load or a store accesses.
 pub fn size_of(access: Access) -> u32

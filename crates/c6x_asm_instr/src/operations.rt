@@ -2,13 +2,12 @@ ghost use Rattle.std.specs.Prelude.{◌≡◌, ◌<◌, ◌≤◌, length, IfOk}
 ghost use Rattle.c6x_asm_instr.specs.Instructions.{first_range, first_of, second_side, two_with, two_of, move_field, move_of};
 
 use crate::units::{has_form, is_cross, is_swapped, other_side};
-use c6x_asm_lines::{AsmRule, Operand, Primary, Value, both};
-use c6x_asm_operands::{
-    Field, Range, RelocatableOp, Unit, constant_operand, field_operand, number_in, register_on,
-    register_operand,
+use c6x_asm_lines::{
+    AsmRule, Field, Operand, Primary, Range, RelocatableOp, Unit, Value, both, constant_operand,
+    field_operand, number_in, register_on, register_operand,
 };
 use c6x_base::Side;
-use c6x_instr::{Arith, First, MoveKind, Op, UnitKind};
+use c6x_encoding::{Arith, First, MoveKind, Op, UnitKind};
 use c6x_reloc::RelocKind;
 
 const SIGNED_16: Range = Range {

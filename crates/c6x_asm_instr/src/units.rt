@@ -1,9 +1,9 @@
 ghost use Rattle.std.specs.Prelude.{◌≡◌};
 ghost use Rattle.c6x_asm_instr.specs.Instructions.{other_side, is_cross, is_own, names_value, has_form, is_d, is_s, is_swapped};
 
-use c6x_asm_operands::DataPath;
+use c6x_asm_lines::DataPath;
 use c6x_base::Side;
-use c6x_instr::{Arith, UnitKind};
+use c6x_encoding::{Arith, UnitKind};
 
 /// The other side, whose register a cross path reads.
 pub fn other_side(side: Side) -> Side

@@ -4,10 +4,10 @@ use Rattle.c6x_spec.specs.Options.{◌>>=◌}
 use Rattle.c6x_base.specs.declared.limits.TheConstants.{MOST_NAME_BYTES}
 use Rattle.c6x_base.specs.declared.side.Side.{Side}
 use Rattle.c6x_base.specs.declared.side.Side.TheVariants.{A, B}
-use Rattle.c6x_instr.specs.declared.cond.Cond.{Cond}
-use Rattle.c6x_instr.specs.declared.cond.Cond.TheVariants.{Always, If}
-use Rattle.c6x_instr.specs.declared.cond_reg.CondReg.{CondReg}
-use Rattle.c6x_instr.specs.declared.cond_reg.CondReg.TheVariants.{B0, B1, B2, A1, A2, A0}
+use Rattle.c6x_encoding.specs.declared.cond.Cond.{Cond}
+use Rattle.c6x_encoding.specs.declared.cond.Cond.TheVariants.{Always, If}
+use Rattle.c6x_encoding.specs.declared.cond_reg.CondReg.{CondReg}
+use Rattle.c6x_encoding.specs.declared.cond_reg.CondReg.TheVariants.{B0, B1, B2, A1, A2, A0}
 use Rattle.c6x_asm_lines.specs.declared.address.Address.{Address}
 use Rattle.c6x_asm_lines.specs.declared.statement_head.StatementHead.{StatementHead}
 use Rattle.c6x_asm_lines.specs.declared.line.Line.{Line}

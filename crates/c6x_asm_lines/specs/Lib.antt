@@ -5,3 +5,9 @@ pub mod Operands
 pub mod Bytes
 pub mod Rules
 pub mod Names
+pub mod Spelling
+pub mod Readings
+pub mod OperandNames
+pub mod Numbers
+pub mod OperandValues
+pub mod Addresses

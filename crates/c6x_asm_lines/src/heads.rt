@@ -9,7 +9,7 @@ use crate::statement_head::StatementHead;
 use crate::word::{Word, WordClass};
 use c6x_base::Side;
 use c6x_base::limits::MOST_NAME_BYTES;
-use c6x_instr::{Cond, CondReg};
+use c6x_encoding::{Cond, CondReg};
 
 fn is_name(word: Word) -> bool
     ensures { result ≡ is_name word.class word }

@@ -1,5 +1,5 @@
 use crate::word::Word;
-use c6x_instr::Cond;
+use c6x_encoding::Cond;
 
 /// What stands before the operands of an instruction or a directive.
 #[derive(Clone, Copy)]

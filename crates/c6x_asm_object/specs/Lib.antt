@@ -4,3 +4,16 @@ pub mod Sections
 pub mod Symbols
 pub mod Named
 pub mod Sound
+pub mod Bindings
+pub mod FormSymbols
+pub mod Relocations
+pub mod Headers
+pub mod Filing
+pub mod Limits
+pub mod Places
+pub mod Sums
+pub mod Passing
+pub mod FileNames
+pub mod Built
+pub mod Adding
+pub mod Fitting

@@ -1,6 +1,6 @@
-ghost use Rattle.c6x_policy.specs.Picks.{IsReady};
+ghost use Rattle.c6x_ports.specs.Picks.{IsReady};
 
-use c6x_policy::{DrawnBySeed, LastFirst, Pick, Policy, RoundRobin, effective_pick};
+use c6x_ports::{DrawnBySeed, LastFirst, Pick, Policy, RoundRobin, effective_pick};
 use std::alloc::AllocError;
 
 /// Four answers of a policy for processes 0, 2 and 5 of six, with turns of at most ten cycles.

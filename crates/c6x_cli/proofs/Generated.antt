@@ -3,10 +3,10 @@ use Rattle.std.proofs.Common.{◌≡◌, [], length, refl, sym, ◌∙◌}
 use Rattle.std.specs.Prelude.{Result, Ok, Err}
 use Rattle.c6x_spec.specs.Files.{Files}
 use Rattle.c6x_spec.specs.Memory.{Memory}
-use Rattle.c6x_cli_gen.specs.Made.{gen_name, generated_loading}
-use Rattle.c6x_cli_gen.specs.Room.{GeneratedLacksRoomAlone}
-use Rattle.c6x_cli_loading.specs.Placing.{no_room}
-use Rattle.c6x_cli_loading.specs.declared.loading.Loading.{Loading}
+use Rattle.c6x_cli.specs.Made.{gen_name, generated_loading}
+use Rattle.c6x_cli.specs.Room.{GeneratedLacksRoomAlone}
+use Rattle.c6x_cli_run.specs.Placing.{no_room}
+use Rattle.c6x_cli_run.specs.declared.loading.Loading.{Loading}
 use Rattle.c6x_cli_steps.specs.Steps.{◌>>=◌, followed, own}
 use Rattle.c6x_cli_steps.specs.declared.cause.Cause.{Cause}
 use Rattle.c6x_cli_steps.specs.declared.cause.Cause.TheVariants.{Refused}

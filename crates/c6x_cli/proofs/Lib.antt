@@ -1,3 +1,17 @@
+pub mod ObjectLemmas
+pub mod NamesKept
+pub mod ObjectsRead
+pub mod LoadsRead
+pub mod Came
+pub mod PlansRead
+pub mod ModulesRead
+pub mod Linked
+pub mod Placing
+pub mod Loaded
+pub mod Relocatable
+pub mod MadeBehind
+pub mod Totals
+pub mod Room
 pub mod Misread
 pub mod OutcomeKinds
 pub mod Served

@@ -5,16 +5,16 @@ use Rattle.c6x_spec.specs.Memory.{Memory}
 use Rattle.c6x_ports.specs.Shelf.{Shelved}
 use Rattle.c6x_ports.specs.Sink.{Taken}
 use Rattle.c6x_cli_steps.specs.declared.cause.Cause.TheVariants.{Usage}
-use Rattle.c6x_policy.specs.Chooser.{Chooser}
-use Rattle.c6x_policy.specs.declared.kind.Kind.{Kind}
+use Rattle.c6x_ports.specs.Chooser.{Chooser}
+use Rattle.c6x_ports.specs.declared.kind.Kind.{Kind}
 use Rattle.c6x_cli_steps.specs.Policies.{KeepsPolicies}
 use Rattle.c6x_cli_steps.specs.declared.prepare_error.PrepareError.TheVariants.{Because, Memory as NoMemory}
-use Rattle.c6x_cli_exits.specs.Exits.{Exits, IsStopped}
+use Rattle.c6x_cli_run.specs.Exits.{Exits, IsStopped}
 use Rattle.c6x_cli_steps.specs.Lines.{Reports, memory_line, usage_line}
-use Rattle.c6x_cli_exits.specs.Statuses.{Keeps, Performs, Shows}
+use Rattle.c6x_cli_run.specs.Statuses.{Keeps, Performs, Shows}
 use Rattle.c6x_cli_steps.specs.Stores.{KeepsWriteFaults}
 use Rattle.c6x_cli_steps.specs.World.{World, world}
-use Rattle.c6x_cli_exits.proofs.Performs.{shows_stopped, performed_reading, policies_stopped, keeps_stopped, leaves_nothing}
+use Rattle.c6x_cli_run.proofs.Performs.{shows_stopped, performed_reading, policies_stopped, keeps_stopped, leaves_nothing}
 use Rattle.c6x_cli_words.specs.declared.request.Request.{Request}
 use Rattle.c6x_cli.specs.Meaning.{steps_of}
 use Rattle.c6x_cli.specs.Serving.{EndsUsage}

@@ -1,11 +1,11 @@
 use Rattle.std.proofs.Common.{◌≡◌, ◌∙◌, ℕ, Bool, List, refl, sym, subst}
 use Rattle.std.specs.Prelude.{Option, Some}
 use Rattle.c6x_spec.specs.Memory.{Memory}
-use Rattle.c6x_policy.specs.Chooser.{Chooser}
-use Rattle.c6x_policy.specs.declared.kind.Kind.{Kind}
+use Rattle.c6x_ports.specs.Chooser.{Chooser}
+use Rattle.c6x_ports.specs.declared.kind.Kind.{Kind}
 use Rattle.c6x_ports.specs.Shelf.{Shelved}
 use Rattle.c6x_cli_steps.specs.Policies.{asked_kind}
-use Rattle.c6x_cli_exits.specs.Statuses.{IsOfKind, Performs}
+use Rattle.c6x_cli_run.specs.Statuses.{IsOfKind, Performs}
 use Rattle.c6x_cli_steps.specs.Stores.{KeepsWriteFaults}
 use Rattle.c6x_cli_steps.specs.World.{World}
 use Rattle.c6x_cli.specs.declared.prepared.Prepared.{Prepared}

@@ -3,22 +3,22 @@ use Rattle.std.proofs.Common.{◌≡◌, ℕ, inl, inr, Bool, List, refl, sym, a
 use Rattle.std.specs.Prelude.{Option, None, Some, Result, Ok, Err}
 use Rattle.c6x_spec.specs.Files.{Files}
 use Rattle.c6x_spec.specs.Memory.{CanStart}
-use Rattle.c6x_policy.specs.declared.kind.Kind.{Kind}
+use Rattle.c6x_ports.specs.declared.kind.Kind.{Kind}
 use Rattle.c6x_ports.specs.Sink.{Taken}
-use Rattle.c6x_cli_loading.specs.Loading.{loading_steps}
-use Rattle.c6x_cli_relocated.specs.LinkedModules.{LinkedModulesHold}
-use Rattle.c6x_cli_relocated.proofs.Came.{came}
-use Rattle.c6x_cli_relocated.proofs.Loaded.{modules_hold}
+use Rattle.c6x_cli_run.specs.Loading.{loading_steps}
+use Rattle.c6x_cli.specs.LinkedModules.{LinkedModulesHold}
+use Rattle.c6x_cli.proofs.Came.{came}
+use Rattle.c6x_cli.proofs.Loaded.{modules_hold}
 use Rattle.c6x_cli_run.specs.Boards.{start_board}
 use Rattle.c6x_cli_run.specs.Stages.{asked_of, map_stages, run_telling}
 use Rattle.c6x_cli_steps.specs.declared.cause.Cause.{Cause}
 use Rattle.c6x_cli_steps.specs.declared.prepare_error.PrepareError.TheVariants.{Because}
-use Rattle.c6x_cli_exits.specs.Exits.{EndsAs, Exits, IsDone, Outcome, asking_outcome, put_outcome}
+use Rattle.c6x_cli_run.specs.Exits.{EndsAs, Exits, IsDone, Outcome, asking_outcome, put_outcome}
 use Rattle.c6x_cli_steps.specs.Lines.{Reports}
 use Rattle.c6x_cli_steps.specs.Steps.{Steps, own}
 use Rattle.c6x_cli_steps.specs.World.{World}
-use Rattle.c6x_cli_turns.specs.Tellings.{HasPut}
-use Rattle.c6x_cli_exits.proofs.Performs.{not_done}
+use Rattle.c6x_cli_run.specs.Tellings.{HasPut}
+use Rattle.c6x_cli_run.proofs.Performs.{not_done}
 use Rattle.c6x_cli_words.specs.declared.request.Request.{Request}
 use Rattle.c6x_cli_words.specs.declared.request.Request.TheVariants.{Map, Run}
 use Rattle.c6x_cli.specs.Meaning.{request_steps, steps_of}

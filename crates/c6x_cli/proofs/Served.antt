@@ -6,20 +6,20 @@ use Rattle.std.proofs.lemmas.List.Quantifiers.{position-Some}
 use Rattle.std.proofs.lemmas.List.Sums.{position_or_len_is}
 use Rattle.std.specs.Option.{option_map}
 use Rattle.std.proofs.lemmas.Option.{slice_get-map}
-use Rattle.c6x_policy.specs.Chooser.{Chooser}
-use Rattle.c6x_policy.specs.declared.kind.Kind.{Kind}
-use Rattle.c6x_policy.specs.declared.kind.Kind.TheVariants.{Round, Last, Drawn, Other}
+use Rattle.c6x_ports.specs.Chooser.{Chooser}
+use Rattle.c6x_ports.specs.declared.kind.Kind.{Kind}
+use Rattle.c6x_ports.specs.declared.kind.Kind.TheVariants.{Round, Last, Drawn, Other}
 use Rattle.c6x_spec.specs.Memory.{Memory}
 use Rattle.c6x_ports.specs.Shelf.{Shelved}
 use Rattle.c6x_ports.specs.Sink.{Taken}
 use Rattle.c6x_cli_steps.specs.declared.commit_error.CommitError.{CommitError}
-use Rattle.c6x_cli_exits.specs.Exits.{Carries, asking_outcome}
+use Rattle.c6x_cli_run.specs.Exits.{Carries, asking_outcome}
 use Rattle.c6x_cli_steps.specs.Policies.{first_of, same_kind, Serves}
 use Rattle.c6x_cli_steps.specs.World.{world}
-use Rattle.c6x_cli_exits.proofs.Performs.{carries_asking}
+use Rattle.c6x_cli_run.proofs.Performs.{carries_asking}
 use Rattle.c6x_cli_steps.proofs.Policies.{map_set}
-use Rattle.c6x_cli_loading.specs.declared.loading.Loading.{Loading}
-use Rattle.c6x_cli_turns.specs.Tellings.{Telling, Tells}
+use Rattle.c6x_cli_run.specs.declared.loading.Loading.{Loading}
+use Rattle.c6x_cli_run.specs.Tellings.{Telling, Tells}
 use Rattle.c6x_cli_run.specs.Stages.{asked_of}
 use Rattle.c6x_cli_words.specs.Requests.{IsReading}
 use Rattle.c6x_cli_words.specs.declared.request.Request.{Request}

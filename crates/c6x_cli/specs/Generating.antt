@@ -2,8 +2,8 @@
 use Rattle.std.specs.Prelude.{◌≡◌, ℕ, length, Some, Err}
 use Rattle.c6x_spec.specs.Files.{Files}
 use Rattle.c6x_spec.specs.Memory.{Memory}
-use Rattle.c6x_cli_gen.specs.Made.{gen_name}
-use Rattle.c6x_cli_loading.specs.Placing.{no_room}
+use Rattle.c6x_cli.specs.Made.{gen_name}
+use Rattle.c6x_cli_run.specs.Placing.{no_room}
 use Rattle.c6x_cli_steps.specs.declared.cause.Cause.{Cause}
 use Rattle.c6x_cli_steps.specs.declared.cause.Cause.TheVariants.{Refused}
 use Rattle.c6x_cli_words.specs.declared.request.Request.TheVariants.{Generate}

@@ -1,3 +1,12 @@
+pub mod Objects
+pub mod Linking
+pub mod Refusing
+pub mod LinkedLoads
+pub mod LinkedModules
+pub mod Made
+pub mod Sums
+pub mod Stages
+pub mod Room
 pub mod Serving
 pub mod Meaning
 pub mod Relocating

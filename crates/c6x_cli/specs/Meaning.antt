@@ -1,23 +1,23 @@
 use Rattle.std.specs.Prelude.{ℕ, Bool, true, false, List, length, Option, None, Some, IsTrue, is_some, Ok, Err}
 use Rattle.c6x_spec.specs.Files.{Files}
 use Rattle.c6x_spec.specs.Memory.{Memory}
-use Rattle.c6x_policy.specs.Chooser.{Chooser}
-use Rattle.c6x_policy.specs.declared.kind.Kind.{Kind}
-use Rattle.c6x_policy.specs.declared.kind.Kind.TheVariants.{Round}
+use Rattle.c6x_ports.specs.Chooser.{Chooser}
+use Rattle.c6x_ports.specs.declared.kind.Kind.{Kind}
+use Rattle.c6x_ports.specs.declared.kind.Kind.TheVariants.{Round}
 use Rattle.c6x_cli_steps.specs.declared.cause.Cause.TheVariants.{Usage}
-use Rattle.c6x_cli_exits.specs.Exits.{Outcome, put_outcome, asking_outcome, store_outcome}
+use Rattle.c6x_cli_run.specs.Exits.{Outcome, put_outcome, asking_outcome, store_outcome}
 use Rattle.c6x_cli_steps.specs.Policies.{first_of}
 use Rattle.c6x_cli_steps.specs.Steps.{Steps, ◌>>=◌, own}
-use Rattle.c6x_cli_inputs.specs.Elf.{elf_steps}
-use Rattle.c6x_cli_loading.specs.Loading.{loading_steps}
-use Rattle.c6x_cli_loading.specs.Placing.{CanLoad}
-use Rattle.c6x_cli_loading.specs.declared.loading.Loading.{Loading}
+use Rattle.c6x_cli_steps.specs.Elf.{elf_steps}
+use Rattle.c6x_cli_run.specs.Loading.{loading_steps}
+use Rattle.c6x_cli_run.specs.Placing.{CanLoad}
+use Rattle.c6x_cli_run.specs.declared.loading.Loading.{Loading}
 use Rattle.c6x_cli_run.specs.Stages.{asked_of, map_stages, run_telling}
-use Rattle.c6x_cli_turns.specs.Tellings.{untold}
-use Rattle.c6x_cli_gen.specs.Made.{generated_loading}
-use Rattle.c6x_cli_gen.specs.Stages.{gen_stages}
-use Rattle.c6x_cli_objects.specs.Linking.{linking_steps}
-use Rattle.c6x_cli_objects.specs.Objects.{object_steps}
+use Rattle.c6x_cli_run.specs.Tellings.{untold}
+use Rattle.c6x_cli.specs.Made.{generated_loading}
+use Rattle.c6x_cli.specs.Stages.{gen_stages}
+use Rattle.c6x_cli.specs.Linking.{linking_steps}
+use Rattle.c6x_cli.specs.Objects.{object_steps}
 use Rattle.c6x_cli_show.specs.Stages.{code_stages, show_stages}
 use Rattle.c6x_cli_words.specs.declared.request.Request.{Request}
 use Rattle.c6x_cli_words.specs.declared.request.Request.TheVariants.{Assemble, Dis, Generate, Link, Map, Run, Show}

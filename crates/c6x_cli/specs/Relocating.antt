@@ -2,9 +2,9 @@
 use Rattle.std.specs.Prelude.{◌≡◌, ℕ, List, length, Option, Some, Ok}
 use Rattle.c6x_spec.specs.Files.{Files}
 use Rattle.c6x_spec.specs.Memory.{Memory}
-use Rattle.c6x_cli_loading.specs.Loading.{loading_steps}
-use Rattle.c6x_cli_loading.specs.declared.loading.Loading.{Loading}
-use Rattle.c6x_cli_relocated.specs.LinkedModules.{LinkedModulesHold}
+use Rattle.c6x_cli_run.specs.Loading.{loading_steps}
+use Rattle.c6x_cli_run.specs.declared.loading.Loading.{Loading}
+use Rattle.c6x_cli.specs.LinkedModules.{LinkedModulesHold}
 use Rattle.c6x_cli_run.specs.Boards.{start_board}
 use Rattle.c6x_cli_words.specs.declared.request.Request.{Request}
 use Rattle.c6x_cli_words.specs.declared.request.Request.TheVariants.{Map, Run}

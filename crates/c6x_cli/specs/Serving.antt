@@ -1,7 +1,7 @@
 -- Whether the policy that a command asks is there, and what the words come to then.
 use Rattle.std.specs.Prelude.{◌≡◌, ◌⊎◌, ℕ, List, Option, None, Some, is_some, if◌then◌else◌}
-use Rattle.c6x_policy.specs.Chooser.{Chooser}
-use Rattle.c6x_policy.specs.declared.kind.Kind.{Kind}
+use Rattle.c6x_ports.specs.Chooser.{Chooser}
+use Rattle.c6x_ports.specs.declared.kind.Kind.{Kind}
 use Rattle.c6x_cli_steps.specs.Policies.{first_of}
 use Rattle.c6x_cli_words.specs.Requests.{kind_asked}
 use Rattle.c6x_cli_words.specs.declared.request.Request.{Request}

@@ -1,30 +1,28 @@
 ghost use Rattle.std.specs.Prelude.{◌≤◌, List, Some, length, map};
 ghost use Rattle.c6x_spec.specs.Memory.{Memory};
-ghost use Rattle.c6x_policy.specs.Chooser.{Chooser};
-ghost use Rattle.c6x_policy.specs.declared.kind.Kind.TheVariants.{Round as round_kind};
+ghost use Rattle.c6x_ports.specs.Chooser.{Chooser};
+ghost use Rattle.c6x_ports.specs.declared.kind.Kind.TheVariants.{Round as round_kind};
 ghost use Rattle.c6x_ports.specs.Shelf.{Shelved};
 ghost use Rattle.c6x_ports.specs.Sink.{Taken};
 ghost use Rattle.c6x_cli.specs.Meaning.{CanCommit, HasPolicy, asks, generated_outcome, is_store, outcome_of};
-ghost use Rattle.c6x_cli_loading.specs.Placing.{CanLoad};
+ghost use Rattle.c6x_cli_run.specs.Placing.{CanLoad};
 ghost use Rattle.c6x_cli_run.specs.Stages.{asked_of, map_stages, run_telling};
 ghost use Rattle.c6x_cli_show.specs.Stages.{code_stages, show_stages};
-ghost use Rattle.c6x_cli_exits.specs.Exits.{Carries, asking_outcome, put_outcome, store_outcome};
+ghost use Rattle.c6x_cli_run.specs.Exits.{Carries, asking_outcome, put_outcome, store_outcome};
 ghost use Rattle.c6x_cli_steps.specs.Stores.{KeepsWriteFaults};
 ghost use Rattle.c6x_cli_steps.specs.World.{world};
 
 use crate::prepared::Prepared;
+use crate::putting::put_generated;
 use crate::serving::first_policy;
+use crate::store::store_file;
 use c6x_base::{Bytes, Name};
 use c6x_board::Board;
-use c6x_cli_gen::put_generated;
-use c6x_cli_loading::Loading;
-use c6x_cli_objects::store_file;
-use c6x_cli_run::{put_map, put_run};
+use c6x_cli_run::{Loading, put_map, put_run};
 use c6x_cli_show::{put_code, put_show};
 use c6x_cli_steps::CommitError;
 use c6x_elf::File;
-use c6x_policy::Kind;
-use c6x_ports::{Policy, Shelf, Sink};
+use c6x_ports::{Kind, Policy, Shelf, Sink};
 use std::alloc::Global;
 
 /// Stores, or writes the board and the output. The error output stays.

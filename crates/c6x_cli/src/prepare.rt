@@ -2,24 +2,23 @@ ghost use Rattle.std.specs.Prelude.{◌≡◌, ◌≤◌, true, false, None, Som
 ghost use Rattle.c6x_cli_words.specs.declared.request.Request.TheVariants.{Assemble as assemble_request, Dis as dis_request, Generate as generate_request, Link as link_request, Map as map_request, Run as run_request, Show as show_request};
 ghost use Rattle.c6x_cli.specs.Meaning.{CanCommit, asks, is_store, outcome_of, request_steps};
 ghost use Rattle.c6x_cli_words.specs.Requests.{HasSmallNumber, is_storing, kind_asked};
-ghost use Rattle.c6x_cli_loading.specs.Loading.{loading_steps};
-ghost use Rattle.c6x_cli_loading.specs.Placing.{CanLoad};
+ghost use Rattle.c6x_cli_run.specs.Loading.{loading_steps};
+ghost use Rattle.c6x_cli_run.specs.Placing.{CanLoad};
 ghost use Rattle.c6x_ports.specs.Shelf.{Shelved};
-ghost use Rattle.c6x_policy.specs.declared.kind.Kind.TheVariants.{Round as round_kind};
-ghost use Rattle.c6x_cli_gen.specs.Made.{generated_loading};
+ghost use Rattle.c6x_ports.specs.declared.kind.Kind.TheVariants.{Round as round_kind};
+ghost use Rattle.c6x_cli.specs.Made.{generated_loading};
 ghost use Rattle.c6x_cli_steps.specs.Steps.{Decides, Prepares};
 
+use crate::linking::prepare_module;
+use crate::object::prepare_object;
 use crate::prepared::Prepared;
+use crate::preparing::prepare_generated;
 use c6x_base::Name;
 use c6x_board::Board;
-use c6x_cli_gen::prepare_generated;
-use c6x_cli_inputs::fetch_elf;
-use c6x_cli_loading::{Loading, prepare_loading};
-use c6x_cli_objects::{prepare_module, prepare_object};
-use c6x_cli_steps::PrepareError;
+use c6x_cli_run::{Loading, prepare_loading};
+use c6x_cli_steps::{PrepareError, fetch_elf};
 use c6x_cli_words::Request;
-use c6x_policy::Kind;
-use c6x_ports::Shelf;
+use c6x_ports::{Kind, Shelf};
 use std::alloc::Global;
 
 /// Does all that a command decides before anything is written.

@@ -1,7 +1,7 @@
 use c6x_base::{Bytes, Name};
-use c6x_cli_loading::Loading;
+use c6x_cli_run::Loading;
 use c6x_elf::File;
-use c6x_policy::Kind;
+use c6x_ports::Kind;
 
 /// A command that nothing stops any more but its devices.
 #[derive(Drop)]

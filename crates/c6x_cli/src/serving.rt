@@ -1,14 +1,13 @@
 ghost use Rattle.std.specs.Prelude.{◌≡◌, ◌<◌, IfSome, length, map};
 ghost use Rattle.std.specs.List.{position};
-ghost use Rattle.c6x_policy.specs.Chooser.{Chooser};
+ghost use Rattle.c6x_ports.specs.Chooser.{Chooser};
 ghost use Rattle.c6x_cli.specs.Meaning.{HasPolicy};
 ghost use Rattle.c6x_cli.specs.Serving.{served};
 ghost use Rattle.c6x_cli_words.specs.Requests.{HasSmallNumber, kind_asked};
 ghost use Rattle.c6x_cli_steps.specs.Policies.{first_of, same_kind};
 
 use c6x_cli_words::Request;
-use c6x_policy::Kind;
-use c6x_ports::Policy;
+use c6x_ports::{Kind, Policy};
 
 /// The request, where the policy that it asks for is there.
 pub fn serve(request: Request, policies: &Vec<Box<dyn Policy>>) -> Option<Request>

@@ -2,7 +2,7 @@
 use Rattle.std.proofs.Common.{◌≡◌, sym, ap, subst, List}
 use Rattle.std.specs.Prelude.{Result, Ok, Err}
 use Rattle.c6x_spec.specs.Memory.{Memory}
-use Rattle.c6x_policy.specs.Chooser.{Chooser}
+use Rattle.c6x_ports.specs.Chooser.{Chooser}
 use Rattle.c6x_ports.specs.Sink.{Taken}
 use Rattle.c6x_cli_steps.specs.declared.commit_error.CommitError.{CommitError}
 use Rattle.c6x_cli_steps.specs.declared.commit_error.CommitError.TheVariants.{WriteFault, Memory as NoMemory}

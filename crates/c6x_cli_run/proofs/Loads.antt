@@ -1,8 +1,8 @@
 -- What can be loaded.
 use Rattle.std.proofs.Common.{◌≡◌, ℕ, length, sym, subst}
 use Rattle.c6x_spec.specs.Memory.{Memory}
-use Rattle.c6x_cli_loading.specs.declared.loading.Loading.{Loading}
-use Rattle.c6x_cli_loading.specs.Placing.{CanLoad}
+use Rattle.c6x_cli_run.specs.declared.loading.Loading.{Loading}
+use Rattle.c6x_cli_run.specs.Placing.{CanLoad}
 
 -- a memory of the same addresses serves as well
 pub loads_later : (loading : Loading) (before after : Memory) → CanLoad before.base (length before.bytes) loading → after.base ≡ before.base → length after.bytes ≡ length before.bytes → CanLoad after.base (length after.bytes) loading

@@ -9,9 +9,9 @@ use Rattle.c6x_access.specs.Rights.{allowed}
 use Rattle.c6x_access.specs.declared.right.Right.TheVariants.{Write}
 use Rattle.c6x_machine.specs.Origin.{Origin}
 use Rattle.c6x_exec.specs.declared.process.Process.{Process}
-use Rattle.c6x_policy.specs.Chooser.{Chooser, Begins}
-use Rattle.c6x_policy.specs.Picks.{is_named}
-use Rattle.c6x_processes.specs.Together.{AllStand, AreFramed}
+use Rattle.c6x_ports.specs.Chooser.{Chooser, Begins}
+use Rattle.c6x_ports.specs.Picks.{is_named}
+use Rattle.c6x_sched.specs.Together.{AllStand, AreFramed}
 use Rattle.c6x_sched.specs.Play.{Game, HasPlayed, game_of}
 use Rattle.c6x_sched.specs.Turns.{ready_of}
 use Rattle.c6x_sched.proofs.At.{Found, found_at}
@@ -19,9 +19,9 @@ use Rattle.c6x_sched.proofs.Open.{runs_ready}
 use Rattle.c6x_sched.proofs.Whole.{left_is}
 use Rattle.c6x_load.specs.Made.{AreFresh}
 use Rattle.c6x_cli_steps.specs.Policies.{Asked, HasAnswered}
-use Rattle.c6x_cli_turns.specs.Boards.{boards_at}
-use Rattle.c6x_cli_turns.proofs.Stands.{board_of_all}
-use Rattle.c6x_cli_loading.specs.declared.loading.Loading.{Loading}
+use Rattle.c6x_cli_run.specs.TurnBoards.{boards_at}
+use Rattle.c6x_cli_run.proofs.Stands.{board_of_all}
+use Rattle.c6x_cli_run.specs.declared.loading.Loading.{Loading}
 use Rattle.c6x_cli_run.specs.Boards.{count_of, game_with, starts_of}
 use Rattle.c6x_cli_run.specs.Runs.{AskedOnce}
 use Rattle.c6x_cli_run.specs.Stages.{asked_of}

@@ -7,12 +7,12 @@ use Rattle.c6x_spec.specs.Sinks.{Takes}
 use Rattle.c6x_machine.specs.Machine.{life}
 use Rattle.c6x_exec.specs.declared.process.Process.{Process}
 use Rattle.c6x_spec.proofs.Puts.{on_err}
-use Rattle.c6x_policy.specs.Chooser.{Chooser, Begins}
-use Rattle.c6x_policy.specs.Picks.{begun, is_named}
-use Rattle.c6x_policy.specs.declared.kind.Kind.{Kind}
+use Rattle.c6x_ports.specs.Chooser.{Chooser, Begins}
+use Rattle.c6x_ports.specs.Picks.{begun, is_named}
+use Rattle.c6x_ports.specs.declared.kind.Kind.{Kind}
 use Rattle.c6x_ports.specs.Sink.{Puts, Taken}
 use Rattle.c6x_ports.proofs.Rises.{Rose-later}
-use Rattle.c6x_processes.specs.Together.{AllStand, AreFramed}
+use Rattle.c6x_sched.specs.Together.{AllStand, AreFramed}
 use Rattle.c6x_sched.specs.Play.{Game, Played, IsOver, IsPlay, counts_of, game_of}
 use Rattle.c6x_sched.specs.System.{processes_of}
 use Rattle.c6x_sched.specs.Turns.{ready_of}
@@ -22,16 +22,16 @@ use Rattle.c6x_sched.proofs.Plays.{lived_end, lives_end}
 use Rattle.c6x_plan.specs.declared.process_plan.ProcessPlan.{ProcessPlan}
 use Rattle.c6x_cli_steps.specs.declared.commit_error.CommitError.{CommitError}
 use Rattle.c6x_cli_steps.specs.Stages.{Delivers, TakesBehind}
-use Rattle.c6x_cli_loading.specs.declared.loading.Loading.{Loading}
+use Rattle.c6x_cli_run.specs.declared.loading.Loading.{Loading}
 use Rattle.c6x_cli_steps.proofs.Stages.{cut_first}
-use Rattle.c6x_cli_report.specs.Bases.{base_text}
-use Rattle.c6x_cli_report.specs.Ends.{ends_text}
-use Rattle.c6x_cli_turns.specs.Boards.{boards_at}
-use Rattle.c6x_cli_turns.specs.Tellings.{HasPut, PutsTelling, Tells}
-use Rattle.c6x_cli_turns.specs.Told.{HasTold, IsToldCut}
-use Rattle.c6x_cli_turns.specs.TurnLines.{line_of, names_of, turn_lines}
-use Rattle.c6x_cli_turns.proofs.Games.{counts_same, same_over, same_play, with_state}
-use Rattle.c6x_cli_turns.proofs.Tellings.{puts_last, takes_told, tells_untold, turn_cut}
+use Rattle.c6x_cli_run.specs.Bases.{base_text}
+use Rattle.c6x_cli_run.specs.Ends.{ends_text}
+use Rattle.c6x_cli_run.specs.TurnBoards.{boards_at}
+use Rattle.c6x_cli_run.specs.Tellings.{HasPut, PutsTelling, Tells}
+use Rattle.c6x_cli_run.specs.Told.{HasTold, IsToldCut}
+use Rattle.c6x_cli_run.specs.TurnLines.{line_of, names_of, turn_lines}
+use Rattle.c6x_cli_run.proofs.Games.{counts_same, same_over, same_play, with_state}
+use Rattle.c6x_cli_run.proofs.Tellings.{puts_last, takes_told, tells_untold, turn_cut}
 use Rattle.c6x_cli_run.specs.Boards.{count_of, end_board, game_with, start_board, starts_of}
 use Rattle.c6x_cli_run.specs.Stages.{run_stages, run_telling, told_run}
 use Rattle.c6x_cli_run.specs.Runs.{HasToldRun, IsRunCut}

@@ -4,13 +4,13 @@ use Rattle.c6x_spec.specs.Memory.{Memory}
 use Rattle.c6x_spec.specs.Parts.{Part, filled_with}
 use Rattle.c6x_machine.specs.Machine.{life}
 use Rattle.c6x_machine.specs.Origin.{Origin}
-use Rattle.c6x_policy.specs.Picks.{begun}
-use Rattle.c6x_policy.specs.declared.kind.Kind.{Kind}
+use Rattle.c6x_ports.specs.Picks.{begun}
+use Rattle.c6x_ports.specs.declared.kind.Kind.{Kind}
 use Rattle.c6x_sched.specs.Play.{Game}
-use Rattle.c6x_load_plan.specs.Loaded.{plan_parts}
+use Rattle.c6x_load.specs.Loaded.{plan_parts}
 use Rattle.c6x_load.specs.Starts.{origins}
-use Rattle.c6x_cli_turns.specs.Boards.{boards_at}
-use Rattle.c6x_cli_loading.specs.declared.loading.Loading.{Loading}
+use Rattle.c6x_cli_run.specs.TurnBoards.{boards_at}
+use Rattle.c6x_cli_run.specs.declared.loading.Loading.{Loading}
 
 -- All that the processes have in the memory at their starts, and the start of each.
 abbrev pub parts_of : Loading → List Part

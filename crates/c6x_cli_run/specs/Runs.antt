@@ -3,9 +3,9 @@ use Rattle.std.specs.Prelude.{◌≡◌, ◌≤◌, ℕ, List, [], ◌∷◌, le
 use Rattle.c6x_spec.specs.Memory.{Memory}
 use Rattle.c6x_spec.specs.Sinks.{Takes}
 use Rattle.c6x_machine.specs.Machine.{life}
-use Rattle.c6x_policy.specs.Chooser.{Chooser}
-use Rattle.c6x_processes.specs.Together.{AllLieOn, AllStand, AreApart}
-use Rattle.c6x_processes.specs.declared.loaded.Loaded.{Loaded}
+use Rattle.c6x_ports.specs.Chooser.{Chooser}
+use Rattle.c6x_sched.specs.Together.{AllLieOn, AllStand, AreApart}
+use Rattle.c6x_sched.specs.declared.loaded.Loaded.{Loaded}
 use Rattle.c6x_sched.specs.Ended.{AllEnded, AllHaveLived}
 use Rattle.c6x_sched.specs.Play.{Game, Played, IsOver, IsPlay, counts_of}
 use Rattle.c6x_sched.specs.System.{processes_of}
@@ -13,9 +13,9 @@ use Rattle.c6x_sched.specs.declared.system.System.{System}
 use Rattle.c6x_load.specs.Made.{AreFresh}
 use Rattle.c6x_cli_steps.specs.Policies.{Asked, HasAnswered}
 use Rattle.c6x_cli_steps.specs.Stages.{TakesBehind}
-use Rattle.c6x_cli_turns.specs.Boards.{boards_at}
-use Rattle.c6x_cli_turns.specs.TurnLines.{line_of, names_of, turn_lines}
-use Rattle.c6x_cli_loading.specs.declared.loading.Loading.{Loading}
+use Rattle.c6x_cli_run.specs.TurnBoards.{boards_at}
+use Rattle.c6x_cli_run.specs.TurnLines.{line_of, names_of, turn_lines}
+use Rattle.c6x_cli_run.specs.declared.loading.Loading.{Loading}
 use Rattle.c6x_cli_run.specs.Boards.{count_of, starts_of}
 
 -- The processes of a plan and the board stand for their starts, and nothing keeps them from taking turns.

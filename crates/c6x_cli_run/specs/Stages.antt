@@ -1,16 +1,16 @@
 -- What `map` and `run` put, and the board at each of their texts.
 use Rattle.std.specs.Prelude.{ℕ, Bool, true, false, List, [], ◌∷◌, ◌++◌, Some}
 use Rattle.c6x_spec.specs.Memory.{Memory}
-use Rattle.c6x_policy.specs.declared.kind.Kind.{Kind}
+use Rattle.c6x_ports.specs.declared.kind.Kind.{Kind}
 use Rattle.c6x_sched.specs.Left.{left}
 use Rattle.c6x_cli_steps.specs.Policies.{Asked}
 use Rattle.c6x_cli_steps.specs.Stages.{Stage}
-use Rattle.c6x_cli_turns.specs.Tellings.{Telling, turn_stages, untold}
-use Rattle.c6x_cli_turns.specs.TurnLines.{names_of}
-use Rattle.c6x_cli_loading.specs.declared.loading.Loading.{Loading}
-use Rattle.c6x_cli_report.specs.Bases.{base_text}
-use Rattle.c6x_cli_report.specs.Ends.{ends_text}
-use Rattle.c6x_cli_report.specs.Values.{value_text}
+use Rattle.c6x_cli_run.specs.Tellings.{Telling, turn_stages, untold}
+use Rattle.c6x_cli_run.specs.TurnLines.{names_of}
+use Rattle.c6x_cli_run.specs.declared.loading.Loading.{Loading}
+use Rattle.c6x_cli_run.specs.Bases.{base_text}
+use Rattle.c6x_cli_run.specs.Ends.{ends_text}
+use Rattle.c6x_cli_run.specs.Values.{value_text}
 use Rattle.c6x_cli_run.specs.Boards.{starts_of, start_board, end_board, game_with}
 
 -- `map` puts the whole report once the plan is loaded.

@@ -1,16 +1,17 @@
 ghost use Rattle.std.specs.Prelude.{◌≡◌, ◌++◌, length};
-ghost use Rattle.c6x_load_plan.specs.ReadBack.{AreSeatsReadBack};
+ghost use Rattle.c6x_load.specs.ReadBack.{AreSeatsReadBack};
 ghost use Rattle.c6x_ports.specs.Sink.{Puts};
 ghost use Rattle.c6x_cli_steps.specs.Stages.{Delivers};
-ghost use Rattle.c6x_cli_loading.specs.Placing.{CanLoad};
-ghost use Rattle.c6x_cli_report.specs.Bases.{base_text};
-ghost use Rattle.c6x_cli_report.specs.Values.{value_text};
+ghost use Rattle.c6x_cli_run.specs.Placing.{CanLoad};
+ghost use Rattle.c6x_cli_run.specs.Bases.{base_text};
+ghost use Rattle.c6x_cli_run.specs.Values.{value_text};
 ghost use Rattle.c6x_cli_run.specs.Stages.{map_stages};
 
+use crate::bases::put_bases;
+use crate::loading::Loading;
 use crate::starting::write_start;
+use crate::values::put_values;
 use c6x_board::Board;
-use c6x_cli_loading::Loading;
-use c6x_cli_report::{put_bases, put_values};
 use c6x_cli_steps::CommitError;
 use c6x_ports::{Sink, SinkError};
 

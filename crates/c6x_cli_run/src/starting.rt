@@ -1,13 +1,12 @@
 ghost use Rattle.std.specs.Prelude.{◌≡◌, IfOk, OnErr, OnOk, length};
-ghost use Rattle.c6x_load_plan.specs.ReadBack.{AreSeatsReadBack};
-ghost use Rattle.c6x_cli_loading.specs.Placing.{CanLoad};
+ghost use Rattle.c6x_load.specs.ReadBack.{AreSeatsReadBack};
+ghost use Rattle.c6x_cli_run.specs.Placing.{CanLoad};
 ghost use Rattle.c6x_cli_run.specs.Boards.{start_board};
 ghost use Rattle.c6x_cli_run.specs.Runs.{IsReady};
 
+use crate::loading::Loading;
 use c6x_board::Board;
-use c6x_cli_loading::Loading;
-use c6x_load::load;
-use c6x_load_plan::load_parts;
+use c6x_load::{load, load_parts};
 use c6x_sched::Loaded;
 use std::alloc::{AllocError, Global};
 

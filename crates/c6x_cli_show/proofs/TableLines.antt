@@ -2,7 +2,7 @@
 use Rattle.std.proofs.Common.{◌≡◌, ℕ, ◌+◌, ◌-◌, ◌<◌, ◌≤◌, List, [], ◌++◌, drop, get_or, length, map, sym, ◌∙◌, ap}
 use Rattle.std.proofs.lemmas.List.{drop_all, drop_more}
 use Rattle.std.specs.List.{flat_map, range_with_len}
-use Rattle.c6x_dis_text.proofs.Behind.{numbers_all, numbers_end, numbers_more}
+use Rattle.c6x_dis.proofs.Behind.{numbers_all, numbers_end, numbers_more}
 
 pub lines_more : {A : Type 0} (line : A → List ℕ) (entry : ℕ → A) (number count : ℕ) (x : A) → number < count → x ≡ entry number → flat_map line (map entry (range_with_len number (count - number))) ≡ line x ++ flat_map line (map entry (range_with_len (number + 1) (count - (number + 1))))
 lines_more line entry number count x below is =

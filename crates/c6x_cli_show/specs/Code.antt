@@ -7,7 +7,7 @@ use Rattle.c6x_elf.specs.Abi.{ET_REL, PF_X, PT_LOAD, SHF_EXECINSTR}
 use Rattle.c6x_elf.specs.declared.file.File.{File}
 use Rattle.c6x_elf.specs.declared.section.Section.{Section}
 use Rattle.c6x_elf.specs.declared.segment.Segment.{Segment}
-use Rattle.c6x_dis_text.specs.Listed.{listed}
+use Rattle.c6x_dis.specs.Listed.{listed}
 
 -- A flag is set.
 unfoldable pub has_flag : ℕ → ℕ → Bool

@@ -10,7 +10,7 @@ use Rattle.c6x_elf.specs.TableEntries.{rela_entries, symbol_entries}
 use Rattle.c6x_elf.specs.declared.file.File.{File}
 use Rattle.c6x_elf.specs.declared.section.Section.{Section}
 use Rattle.c6x_elf.specs.declared.segment.Segment.{Segment}
-use Rattle.c6x_module_rules.specs.Entries.{dynamic_in, entries_of}
+use Rattle.c6x_module.specs.Entries.{dynamic_in, entries_of}
 use Rattle.c6x_cli_show.specs.Lines.{rela_line, section_line, segment_line, symbol_line_in, tag_line, type_line}
 
 -- A section of a file, with its name.

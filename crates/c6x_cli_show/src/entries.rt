@@ -2,10 +2,10 @@ ghost use Rattle.std.specs.Prelude.{◌≡◌, ◌+◌, ◌*◌, ◌≤◌, fals
 ghost use Rattle.c6x_elf.specs.TableEntries.{dynamic_at, rela_at, symbol_at};
 
 use c6x_elf::{Dyn, Rela, Symbol};
-use c6x_elf_entries::{read_half, read_word};
+use c6x_elf_headers::{read_half, read_word};
 
 /// The symbol with this number, which is wholly in the table.
-#[tactic(auto, unfolding(c6x_elf_entries::specs::Entries::symbol_at))]
+#[tactic(auto, unfolding(c6x_elf_headers::specs::Entries::symbol_at))]
 pub fn symbol_in(table: &[u8], number: usize) -> Symbol
     requires { 16 * number + 16 ≤ length table.now }
     ensures { result ≡ symbol_at false table.now number }
@@ -22,7 +22,7 @@ pub fn symbol_in(table: &[u8], number: usize) -> Symbol
 }
 
 /// The relocation entry with this number.
-#[tactic(auto, unfolding(c6x_elf_entries::specs::Entries::rela_at))]
+#[tactic(auto, unfolding(c6x_elf_headers::specs::Entries::rela_at))]
 pub fn rela_in(table: &[u8], number: usize) -> Rela
     requires { 12 * number + 12 ≤ length table.now }
     ensures { result ≡ rela_at false table.now number }
@@ -36,7 +36,7 @@ pub fn rela_in(table: &[u8], number: usize) -> Rela
 }
 
 /// The dynamic entry with this number.
-#[tactic(auto, unfolding(c6x_elf_entries::specs::Entries::dynamic_at))]
+#[tactic(auto, unfolding(c6x_elf_headers::specs::Entries::dynamic_at))]
 pub fn entry_in(table: &[u8], number: usize) -> Dyn
     requires { 8 * number + 8 ≤ length table.now }
     ensures { result ≡ dynamic_at false table.now number }

@@ -3,7 +3,7 @@ ghost use Rattle.std.specs.List.{flat_map};
 ghost use Rattle.std.specs.Option.{option_copied};
 ghost use Rattle.c6x_elf.specs.Parts.{is_symbol_table};
 ghost use Rattle.c6x_elf.specs.TableEntries.{rela_entries, symbol_entries};
-ghost use Rattle.c6x_module_rules.specs.Entries.{dynamic_in, entries_of};
+ghost use Rattle.c6x_module.specs.Entries.{dynamic_in, entries_of};
 ghost use Rattle.c6x_ports.specs.Sink.{Puts};
 ghost use Rattle.c6x_cli_show.specs.Lines.{rela_line, symbol_line_in, tag_line};
 ghost use Rattle.c6x_cli_show.specs.Shown.{table_relas, table_symbols, tables_text, tag_lines};
@@ -132,7 +132,7 @@ fn put_dynamics<O: Sink>(out: &mut O, segments: &[Segment]) -> Result<(), SinkEr
 }
 
 /// The bytes of the first segment of type DYNAMIC.
-#[tactic(auto, using(c6x_module_rules::proofs::EntryWalks::dynamic_more))]
+#[tactic(auto, using(c6x_module::proofs::EntryWalks::dynamic_more))]
 fn dynamic_in(segments: &[Segment]) -> Option<&[u8]>
     ensures { option_copied result ≡ dynamic_in segments.now }
 {

@@ -4,3 +4,6 @@ pub mod Stages
 pub mod Steps
 pub mod Lines
 pub mod Stores
+pub mod Plans
+pub mod Elf
+pub mod Refusing

@@ -2,10 +2,10 @@
 use Rattle.std.specs.Prelude.{◌≡◌, ◌≢◌, ◌⊎◌, ℕ, Bool, true, false, IsTrue, List, set, slice_get, Option, None, Some, Result, Err, OnOk}
 use Rattle.std.specs.List.{position}
 use Rattle.c6x_spec.specs.Files.{Rose}
-use Rattle.c6x_policy.specs.Chooser.{Chooser}
-use Rattle.c6x_policy.specs.Picks.{is_named}
-use Rattle.c6x_policy.specs.declared.kind.Kind.{Kind}
-use Rattle.c6x_policy.specs.declared.kind.Kind.TheVariants.{Round, Last, Drawn, Other}
+use Rattle.c6x_ports.specs.Chooser.{Chooser}
+use Rattle.c6x_ports.specs.Picks.{is_named}
+use Rattle.c6x_ports.specs.declared.kind.Kind.{Kind}
+use Rattle.c6x_ports.specs.declared.kind.Kind.TheVariants.{Round, Last, Drawn, Other}
 use Rattle.c6x_cli_steps.specs.declared.commit_error.CommitError.{CommitError}
 use Rattle.c6x_cli_steps.specs.declared.commit_error.CommitError.TheVariants.{Memory as NoMemory}
 

@@ -1,6 +1,6 @@
 use Rattle.std.specs.Prelude.{List}
 use Rattle.c6x_spec.specs.Memory.{Memory}
-use Rattle.c6x_policy.specs.Chooser.{Chooser}
+use Rattle.c6x_ports.specs.Chooser.{Chooser}
 use Rattle.c6x_ports.specs.Shelf.{Shelved}
 use Rattle.c6x_ports.specs.Sink.{Taken}
 

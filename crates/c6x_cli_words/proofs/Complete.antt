@@ -3,7 +3,7 @@ use Rattle.std.proofs.Common.{◌≡◌, ℕ, ◌+◌, ◌≤◌, Bool, true, fa
 use Rattle.std.specs.Prelude.{Option, None, Some, codes, fold, is_some, nat_eq, not, if◌then◌else◌}
 use Rattle.std.specs.List.{list_all}
 use Rattle.std.proofs.lemmas.Bool.Decides.{Decides-eqb}
-use Rattle.c6x_policy.specs.declared.kind.Kind.{Kind}
+use Rattle.c6x_ports.specs.declared.kind.Kind.{Kind}
 use Rattle.c6x_plan.specs.Words.{is_digit, is_number, number_in}
 use Rattle.clap.specs.Walk.{Held, Row, Text, Walk, has_row, pushed, reacted, settled, walked}
 use Rattle.clap.specs.Simple.{filled}

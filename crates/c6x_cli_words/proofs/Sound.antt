@@ -4,7 +4,7 @@ use Rattle.std.specs.Prelude.{Option, None, Some, codes, fold, map}
 use Rattle.std.specs.List.{list_all}
 use Rattle.std.specs.Str.{bytes_eq}
 use Rattle.std.proofs.lemmas.Slice.Eq.{bytes_eq-Decides}
-use Rattle.c6x_policy.specs.declared.kind.Kind.{Kind}
+use Rattle.c6x_ports.specs.declared.kind.Kind.{Kind}
 use Rattle.clap.specs.Walk.{Held, Text, Walk, pushed, reacted, settled, walked}
 use Rattle.clap.specs.Simple.{filled}
 use Rattle.clap.specs.Faults.{settle_fault, turn_fault, use_fault}

@@ -5,8 +5,8 @@ use Rattle.std.specs.Option.{option_to_list}
 use Rattle.std.specs.List.{list_all}
 use Rattle.std.specs.Str.{bytes_eq}
 use Rattle.std.proofs.lemmas.Slice.Eq.{bytes_eq-Decides}
-use Rattle.c6x_policy.specs.declared.kind.Kind.{Kind}
-use Rattle.c6x_policy.specs.declared.kind.Kind.TheVariants.{Round}
+use Rattle.c6x_ports.specs.declared.kind.Kind.{Kind}
+use Rattle.c6x_ports.specs.declared.kind.Kind.TheVariants.{Round}
 use Rattle.c6x_cli_words.specs.Arguments.{Argument, plan_word, policy_words, seed_words, turns_word, AreSpelled, generator_number, is_positional, kind_named, kinds_of, number_of, once_if, plans_of, seeds_of, times_told}
 use Rattle.c6x_cli_words.specs.Asked.{asked, generated_by, is_bare, kind_in, request_told, seed_in, with_file, with_one, with_two}
 use Rattle.c6x_cli_words.specs.Requests.{IsReading, IsVerbRun, Spells}

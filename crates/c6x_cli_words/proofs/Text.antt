@@ -7,7 +7,7 @@ use Rattle.std.proofs.lemmas.Bool.Decides.{Decides-ltb}
 use Rattle.std.proofs.lemmas.Slice.Eq.{bytes_eq-Decides}
 use Rattle.std.proofs.lemmas.Str.{IsUtf8-append, IsUtf8-encode, IsUtf8-from_is_utf8, IsUtf8-nil, encode_ascii, is_utf8-from_IsUtf8}
 use lib.Utf8.{low_scalar}
-use Rattle.c6x_policy.specs.declared.kind.Kind.{Kind}
+use Rattle.c6x_ports.specs.declared.kind.Kind.{Kind}
 use Rattle.c6x_plan.specs.Words.{is_digit}
 use Rattle.c6x_cli_words.specs.Arguments.{is_positional, kind_named, number_of}
 use Rattle.c6x_cli_words.proofs.Complete.{digits_of}

@@ -1,8 +1,8 @@
 -- The words behind `run` (this project's own): arguments of one or two words, in any order.
 use Rattle.std.specs.Prelude.{◌≡◌, ℕ, ◌+◌, Bool, ◌&&◌, not, IsTrue, List, [], ◌∷◌, length, slice_index, nat_eq, Option, None, Some, codes, if◌then◌else◌}
 use Rattle.std.specs.Str.{bytes_eq, is_utf8}
-use Rattle.c6x_policy.specs.declared.kind.Kind.{Kind}
-use Rattle.c6x_policy.specs.declared.kind.Kind.TheVariants.{Round, Last, Drawn, Other}
+use Rattle.c6x_ports.specs.declared.kind.Kind.{Kind}
+use Rattle.c6x_ports.specs.declared.kind.Kind.TheVariants.{Round, Last, Drawn, Other}
 use Rattle.c6x_plan.specs.Words.{number_in}
 
 -- A word that may stand for a file: it is UTF-8, is not empty and does not begin with a dash.

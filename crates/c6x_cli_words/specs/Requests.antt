@@ -1,8 +1,8 @@
 -- What the words of the command ask for (this project's own).
 use Rattle.std.specs.Prelude.{◌≡◌, ℕ, ◌≤◌, Bool, true, false, IsTrue, List, [], ◌∷◌, Option, None, Some, codes, unwrap_or}
 use Rattle.std.specs.Option.{option_to_list}
-use Rattle.c6x_policy.specs.declared.kind.Kind.{Kind}
-use Rattle.c6x_policy.specs.declared.kind.Kind.TheVariants.{Round}
+use Rattle.c6x_ports.specs.declared.kind.Kind.{Kind}
+use Rattle.c6x_ports.specs.declared.kind.Kind.TheVariants.{Round}
 use Rattle.c6x_cli_words.specs.Arguments.{Argument, AreSpelled, generator_number, is_positional, kinds_of, once_if, plans_of, seeds_of, times_told}
 use Rattle.c6x_cli_words.specs.declared.request.Request.{Request}
 use Rattle.c6x_cli_words.specs.declared.request.Request.TheVariants.{Assemble, Dis, Generate, Link, Map, Run, Show}

@@ -2,7 +2,7 @@ ghost use Rattle.std.specs.Prelude.{◌≡◌};
 ghost use Rattle.std.specs.Str.{is_utf8};
 ghost use Rattle.c6x_cli_words.specs.Arguments.{is_positional, kind_named};
 
-use c6x_policy::Kind;
+use c6x_ports::Kind;
 use std::str;
 
 /// The kind of policies that a word names.

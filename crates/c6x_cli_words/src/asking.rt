@@ -10,7 +10,7 @@ use crate::argument::{is_file_name, kind_named};
 use crate::request::Request;
 use c6x_base::Name;
 use c6x_plan::number_in;
-use c6x_policy::Kind;
+use c6x_ports::Kind;
 use clap::ArgMatches;
 use std::alloc::{AllocError, Global};
 

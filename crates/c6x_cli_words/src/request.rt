@@ -1,5 +1,5 @@
 use c6x_base::Name;
-use c6x_policy::Kind;
+use c6x_ports::Kind;
 
 /// What the command's words ask for.
 #[derive(Debug, Drop)]

@@ -1,12 +1,12 @@
 ghost use Rattle.std.specs.Prelude.{◌≡◌, ◌≤◌, ℕ, length};
-ghost use Rattle.c6x_instr.specs.Spelling.{IsValid, Spells};
-ghost use Rattle.c6x_dis_text.specs.Reads.{IsReadBack};
-ghost use Rattle.c6x_dis_text.specs.Shown.{shown};
-ghost use Rattle.c6x_asm_word.specs.Words.{AssemblesTo};
+ghost use Rattle.c6x_encoding.specs.Spelling.{IsValid, Spells};
+ghost use Rattle.c6x_dis.specs.Reads.{IsReadBack};
+ghost use Rattle.c6x_dis.specs.Shown.{shown};
+ghost use Rattle.c6x_dis.specs.Words.{AssemblesTo};
 
+use crate::spelling::show as line_of;
 use c6x_base::Line;
-use c6x_dis_text::show as line_of;
-use c6x_instr::Instr;
+use c6x_encoding::Instr;
 
 /// The line of an instruction as the assembler reads it, the p bit aside (docs/ASSEMBLY.md).
 pub fn show(instr: &Instr) -> Line

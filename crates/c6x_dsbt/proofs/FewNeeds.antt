@@ -3,10 +3,10 @@ use Rattle.std.proofs.Common.{ℕ, suc, ◌*◌, ◌^◌, ◌≤◌, Bool, true,
 use Rattle.std.specs.List.{enumerate_from, filter, flat_map}
 use Rattle.std.specs.Prelude.{All}
 use Rattle.c6x_elf.specs.declared.file.File.{File}
-use Rattle.c6x_objects.proofs.Few.{each_few, file_entries_few, numbered_few}
-use Rattle.c6x_objects.specs.Entries.{file_entries}
-use Rattle.c6x_objects.specs.Objects.{IsObject}
-use Rattle.c6x_objects.specs.declared.object_entry.ObjectEntry.{ObjectEntry}
+use Rattle.c6x_symbols.proofs.Few.{each_few, file_entries_few, numbered_few}
+use Rattle.c6x_symbols.specs.Entries.{file_entries}
+use Rattle.c6x_symbols.specs.Objects.{IsObject}
+use Rattle.c6x_symbols.specs.declared.object_entry.ObjectEntry.{ObjectEntry}
 use Rattle.c6x_symbols.specs.Bindings.{BoundName, name_in}
 use Rattle.c6x_dsbt.specs.Firsts.{firsts, is_other}
 use Rattle.c6x_dsbt.specs.Needs.{file_stubs, file_words, import_of, is_got, is_imported_at, is_packet, number_origin, stub_need, stubs_of, word_need, words_of}

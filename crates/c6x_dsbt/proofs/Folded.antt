@@ -5,7 +5,7 @@ use Rattle.std.proofs.lemmas.Grind.{flat_map-append, fold-append}
 use Rattle.std.proofs.lemmas.List.{append-nil, take_more}
 use Rattle.std.proofs.lemmas.List.Elements.{filter-append}
 use Rattle.std.specs.List.{enumerate_from, filter, flat_map, fold, list_any}
-use Rattle.c6x_objects.proofs.Numbered.{numbered_alone}
+use Rattle.c6x_symbols.proofs.Numbered.{numbered_alone}
 use Rattle.c6x_dsbt.specs.Firsts.{firsts, is_other}
 use Rattle.c6x_dsbt.specs.Growth.{with_stub, with_word}
 use Rattle.c6x_dsbt.specs.Wanted.{same_wanted}

@@ -3,8 +3,8 @@
 use Rattle.std.specs.Prelude.{ℕ, nat_eq, Bool, true, false, List, [], ◌∷◌, Option, None, Some, Result, Ok, Err, map, position, slice_get, if◌then◌else◌}
 use Rattle.std.specs.List.{enumerate_from, flat_map}
 use Rattle.c6x_elf.specs.declared.file.File.{File}
-use Rattle.c6x_objects.specs.Entries.{file_entries}
-use Rattle.c6x_objects.specs.declared.object_entry.ObjectEntry.{ObjectEntry}
+use Rattle.c6x_symbols.specs.Entries.{file_entries}
+use Rattle.c6x_symbols.specs.declared.object_entry.ObjectEntry.{ObjectEntry}
 use Rattle.c6x_reloc.specs.Table.{kind_or, row_of}
 use Rattle.c6x_reloc.specs.declared.origin.Origin.{Origin}
 use Rattle.c6x_reloc.specs.declared.origin.Origin.TheVariants.{Absolute, Got, Index, Nothing, Packet, Slot, Table}

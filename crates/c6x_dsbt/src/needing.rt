@@ -1,6 +1,6 @@
 ghost use Rattle.std.specs.Prelude.{◌≡◌, ◌≤◌, false, All, IfOk, OnOk, length, map};
 ghost use Rattle.std.specs.List.{enumerate_from, flat_map, fold};
-ghost use Rattle.c6x_objects.specs.Objects.{IsObject};
+ghost use Rattle.c6x_symbols.specs.Objects.{IsObject};
 ghost use Rattle.c6x_plan.specs.declared.limits.TheConstants.{MOST_OBJECTS};
 ghost use Rattle.c6x_dsbt.specs.Growth.{with_stub, with_word};
 ghost use Rattle.c6x_dsbt.specs.Needs.{file_stubs, file_words, import_of, is_imported_at, stub_need, word_need};
@@ -11,9 +11,8 @@ use crate::tables::Tables;
 use crate::wanted::Wanted;
 use crate::wanting::{wanted_at, wanted_symbols};
 use c6x_elf::File;
-use c6x_objects::{ObjectEntry, file_entries};
 use c6x_reloc::Origin;
-use c6x_symbols::Bindings;
+use c6x_symbols::{Bindings, ObjectEntry, file_entries};
 use std::alloc::{AllocError, Global};
 
 /// Adds the words and stubs that the entries of all objects need.

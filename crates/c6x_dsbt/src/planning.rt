@@ -1,5 +1,5 @@
 ghost use Rattle.std.specs.Prelude.{◌≡◌, ◌≤◌, false, All, IfOk, length};
-ghost use Rattle.c6x_objects.specs.Objects.{IsObject};
+ghost use Rattle.c6x_symbols.specs.Objects.{IsObject};
 ghost use Rattle.c6x_plan.specs.declared.limits.TheConstants.{MOST_OBJECTS};
 ghost use Rattle.c6x_symbols.specs.Rules.{Passes};
 ghost use Rattle.c6x_dsbt.specs.Needs.{stubs_of, words_of};

@@ -1,5 +1,5 @@
 ghost use Rattle.std.specs.Prelude.{◌≡◌, ◌^◌, ◌<◌, ◌≤◌, false, IfOk, length, map};
-ghost use Rattle.c6x_objects.specs.Objects.{IsObject};
+ghost use Rattle.c6x_symbols.specs.Objects.{IsObject};
 ghost use Rattle.c6x_symbols.specs.Bindings.{name_in};
 ghost use Rattle.c6x_dsbt.specs.Wanted.{wanted_at, wanted_by, wanted_of};
 

@@ -3,7 +3,7 @@ use Rattle.std.proofs.lemmas.List.{length-take-le, drop_more, drop_all, take_mor
 use Rattle.std.proofs.lemmas.Bool.Decides.{nat_tests}
 use Rattle.std.specs.List.{prefix_len, range_with_len}
 use Rattle.std.specs.Option.{option_map}
-use Rattle.c6x_elf_entries.specs.Names.{name_of}
+use Rattle.c6x_elf_headers.specs.Names.{name_of}
 use Rattle.c6x_elf_headers.specs.Rules.{◌<|>◌, along_both, first_along}
 use Rattle.c6x_elf_headers.specs.declared.section_head.SectionHead.{SectionHead}
 use Rattle.c6x_elf.specs.Entries.{ArePlaced, IsPlaced, end_behind, name_end, name_ends, named_refusal, rela_refusal, section_bytes, section_end, symbol_refusal, text_of}

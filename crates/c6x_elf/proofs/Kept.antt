@@ -8,11 +8,11 @@ use Rattle.std.proofs.lemmas.Bool.Decides.{nat_tests}
 use Rattle.c6x_base.specs.declared.limits.TheConstants.{MOST_HELD_BYTES}
 use Rattle.c6x_elf_headers.specs.Rules.{along_both, along_parts, first_along, must}
 use Rattle.c6x_elf_headers.specs.declared.elf_rule.ElfRule.TheVariants.{Short, Large}
-use Rattle.c6x_elf_layout.specs.HeadRows.{SectionsStand, SegmentsStand}
-use Rattle.c6x_elf_entries.specs.Held.{Holds}
-use Rattle.c6x_elf_layout.specs.Laid.{AllHeld, Part}
-use Rattle.c6x_elf_entries.proofs.Holdings.{holds_inner, holds_slice, holds_within}
-use Rattle.c6x_elf_layout.proofs.Passing.{must_is}
+use Rattle.c6x_elf_headers.specs.HeadRows.{SectionsStand, SegmentsStand}
+use Rattle.c6x_elf_headers.specs.Held.{Holds}
+use Rattle.c6x_elf_headers.specs.Laid.{AllHeld, Part}
+use Rattle.c6x_elf_headers.proofs.Holdings.{holds_inner, holds_slice, holds_within}
+use Rattle.c6x_elf_headers.proofs.Passing.{must_is}
 use Rattle.c6x_elf.specs.Entries.{named_refusal}
 use Rattle.c6x_elf.specs.Form.{IsSized, own_head, section_length, segment_length}
 use Rattle.c6x_elf.specs.Parts.{fields_refusal, has_bytes, is_within, part_refusal, section_of, section_refusal, section_size, segment_of, segment_refusal, segment_size}

@@ -12,9 +12,9 @@ pub mod Unders
 pub mod Unpacked
 pub mod Walks
 pub mod WayBack
-pub use Rattle.c6x_elf_entries.proofs.EntryRows
-pub use Rattle.c6x_elf_entries.proofs.Holdings
-pub use Rattle.c6x_elf_entries.proofs.NameTables
-pub use Rattle.c6x_elf_entries.proofs.NumberRows
-pub use Rattle.c6x_elf_layout.proofs.Layouts
-pub use Rattle.c6x_elf_layout.proofs.Passing
+pub use Rattle.c6x_elf_headers.proofs.EntryRows
+pub use Rattle.c6x_elf_headers.proofs.Holdings
+pub use Rattle.c6x_elf_headers.proofs.NameTables
+pub use Rattle.c6x_elf_headers.proofs.NumberRows
+pub use Rattle.c6x_elf_headers.proofs.Layouts
+pub use Rattle.c6x_elf_headers.proofs.Passing

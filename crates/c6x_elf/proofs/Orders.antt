@@ -5,10 +5,10 @@ use Rattle.c6x_spec.specs.Rounded.{rounded}
 use Rattle.c6x_elf_headers.specs.declared.file_head.FileHead.{FileHead}
 use Rattle.c6x_elf_headers.specs.declared.section_head.SectionHead.{SectionHead}
 use Rattle.c6x_elf_headers.specs.declared.segment_head.SegmentHead.{SegmentHead}
-use Rattle.c6x_elf_layout.specs.HeadRows.{file_counts, file_kinds, file_row, file_words, ident, section_rows, section_words, segment_rows, segment_words}
-use Rattle.c6x_elf_layout.specs.Laid.{InOrder, Part, laid}
-use Rattle.c6x_elf_entries.specs.Rows.{half_row, word_row}
-use Rattle.c6x_elf_entries.proofs.NumberRows.{length-half_row, length-word_row}
+use Rattle.c6x_elf_headers.specs.HeadRows.{file_counts, file_kinds, file_row, file_words, ident, section_rows, section_words, segment_rows, segment_words}
+use Rattle.c6x_elf_headers.specs.Laid.{InOrder, Part, laid}
+use Rattle.c6x_elf_headers.specs.Rows.{half_row, word_row}
+use Rattle.c6x_elf_headers.proofs.NumberRows.{length-half_row, length-word_row}
 use Rattle.c6x_elf.specs.Parts.{has_bytes}
 use Rattle.c6x_elf.specs.Writing.{end_of, front_part, head_of, home_of, offset_end, offset_of, offsets, offsets_end, offsets_of, section_heads_at, section_parts, sections_at, sections_end, segment_heads_at, segment_parts, segments_end, spot_from, spot_of, spots, spots_end, spots_of, start_of, step_of, table_parts, with_section, with_segment, written, written_size}
 use Rattle.c6x_elf.specs.declared.file.File.{File}

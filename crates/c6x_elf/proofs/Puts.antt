@@ -1,9 +1,9 @@
 use Rattle.std.proofs.Common.{◌≡◌, ℕ, cond, ◌+◌, ◌*◌, ◌<◌, ◌≤◌, Bool, true, false, List, [], ◌∷◌, ◌++◌, length, drop, get_or, refl, sym, ap, ◌∙◌, append_assoc, subst}
 use Rattle.std.proofs.lemmas.List.{drop_more}
 use Rattle.c6x_base.specs.declared.limits.TheConstants.{MOST_FILE_BYTES}
-use Rattle.c6x_elf_layout.specs.HeadRows.{SectionsFit, SegmentsFit, section_rows, section_words, segment_rows, segment_words}
-use Rattle.c6x_elf_layout.specs.Laid.{InOrder, Part, laid}
-use Rattle.c6x_elf_entries.specs.Rows.{AreWords, word_row}
+use Rattle.c6x_elf_headers.specs.HeadRows.{SectionsFit, SegmentsFit, section_rows, section_words, segment_rows, segment_words}
+use Rattle.c6x_elf_headers.specs.Laid.{InOrder, Part, laid}
+use Rattle.c6x_elf_headers.specs.Rows.{AreWords, word_row}
 use Rattle.c6x_elf_headers.specs.declared.section_head.SectionHead.{SectionHead}
 use Rattle.c6x_elf_headers.specs.declared.segment_head.SegmentHead.{SegmentHead}
 use Rattle.c6x_elf.specs.Parts.{has_bytes}

@@ -5,8 +5,8 @@ use Rattle.std.specs.List.{range_with_len}
 use Rattle.std.proofs.lemmas.Bool.Decides.{nat_tests}
 use Rattle.std.proofs.lemmas.List.FromFn.{get_or-map-range_with_len, length-map-range_with_len}
 use Rattle.c6x_spec.specs.Numbers.{half_at, word_at}
-use Rattle.c6x_elf_entries.specs.Entries.{rela_at, rela_entries, symbol_at, symbol_entries}
-use Rattle.c6x_elf_entries.specs.Names.{name_of}
+use Rattle.c6x_elf_headers.specs.Entries.{rela_at, rela_entries, symbol_at, symbol_entries}
+use Rattle.c6x_elf_headers.specs.Names.{name_of}
 use Rattle.c6x_elf_headers.specs.Rules.{Refusal, along_both, first_along, must}
 use Rattle.c6x_elf_headers.specs.declared.elf_rule.ElfRule.TheVariants.{EntrySize, Index, NoNul}
 use Rattle.c6x_elf.specs.Entries.{entries_refusal, is_section_number, name_refusal, named_refusal, own_name_refusal, rela_refusal, relas_refusal, symbol_refusal, symbols_in, symbols_refusal, text_of}

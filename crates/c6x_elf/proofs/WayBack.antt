@@ -10,13 +10,13 @@ use Rattle.c6x_elf_headers.specs.declared.elf_rule.ElfRule.TheVariants.{Short}
 use Rattle.c6x_elf_headers.specs.declared.section_head.SectionHead.{SectionHead}
 use Rattle.c6x_elf_headers.specs.declared.segment_head.SegmentHead.{SegmentHead}
 use Rattle.c6x_elf_headers.proofs.Rows.{section_heads_none, segment_heads_none}
-use Rattle.c6x_elf_layout.specs.HeadRows.{file_row, section_rows, segment_rows}
-use Rattle.c6x_elf_entries.specs.Held.{Holds}
-use Rattle.c6x_elf_layout.specs.Laid.{AllHeld}
-use Rattle.c6x_elf_layout.proofs.HeadRows.{ReadsHead, file_held, file_read, sections_held as section_heads_held, segments_held as segment_heads_held}
-use Rattle.c6x_elf_entries.proofs.Holdings.{holds_all, holds_left, holds_right, holds_within}
-use Rattle.c6x_elf_layout.proofs.Layouts.{laid_held}
-use Rattle.c6x_elf_layout.proofs.Passing.{header_passes, is_little, must_is}
+use Rattle.c6x_elf_headers.specs.HeadRows.{file_row, section_rows, segment_rows}
+use Rattle.c6x_elf_headers.specs.Held.{Holds}
+use Rattle.c6x_elf_headers.specs.Laid.{AllHeld}
+use Rattle.c6x_elf_headers.proofs.HeadRows.{ReadsHead, file_held, file_read, sections_held as section_heads_held, segments_held as segment_heads_held}
+use Rattle.c6x_elf_headers.proofs.Holdings.{holds_all, holds_left, holds_right, holds_within}
+use Rattle.c6x_elf_headers.proofs.Layouts.{laid_held}
+use Rattle.c6x_elf_headers.proofs.Passing.{header_passes, is_little, must_is}
 use Rattle.c6x_elf.specs.Entries.{named_refusal}
 use Rattle.c6x_elf.specs.Form.{IsTidy, segment_length}
 use Rattle.c6x_elf.specs.Parts.{are_within, section_of, section_refusal, section_size, segment_of, segment_refusal, segment_size}

@@ -2,8 +2,8 @@ use Rattle.std.specs.Prelude.{ℕ, zero, suc, ◌+◌, ◌*◌, ◌/◌, ◌≤�
 use Rattle.std.specs.List.{range_with_len}
 use Rattle.c6x_base.specs.declared.limits.TheConstants.{MOST_FILE_BYTES}
 use Rattle.c6x_spec.specs.Numbers.{half_at, word_at}
-use Rattle.c6x_elf_entries.specs.Names.{name_of}
-use Rattle.c6x_elf_entries.specs.declared.abi.TheConstants.{SHN_LORESERVE}
+use Rattle.c6x_elf_headers.specs.Names.{name_of}
+use Rattle.c6x_elf_headers.specs.declared.abi.TheConstants.{SHN_LORESERVE}
 use Rattle.c6x_elf_headers.specs.Rules.{Refusal, ◌<|>◌, first_along, must}
 use Rattle.c6x_elf_headers.specs.declared.elf_rule.ElfRule.TheVariants.{Index, NoNul}
 use Rattle.c6x_elf_headers.specs.declared.section_head.SectionHead.{SectionHead}

@@ -1,6 +1,6 @@
 use Rattle.std.specs.Prelude.{◌≡◌, ℕ, ◌+◌, ◌≤◌, Bool, IsTrue, None, All, length, map, sum_by}
 use Rattle.c6x_base.specs.declared.limits.TheConstants.{MOST_FILE_BYTES, MOST_HELD_BYTES, MOST_SECTIONS, MOST_SEGMENTS}
-use Rattle.c6x_elf_entries.specs.declared.abi.TheConstants.{PT_LOAD}
+use Rattle.c6x_elf_headers.specs.declared.abi.TheConstants.{PT_LOAD}
 use Rattle.c6x_elf_headers.specs.Header.{is_file_type, is_none_or_below}
 use Rattle.c6x_elf_headers.specs.Rules.{along_both, first_along}
 use Rattle.c6x_elf_headers.specs.declared.section_head.SectionHead.{SectionHead}

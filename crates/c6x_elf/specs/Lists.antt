@@ -1,10 +1,10 @@
 -- A file's symbols and names as lists (gABI chapter 4, "Symbol Table" and "String Table").
 use Rattle.std.specs.Prelude.{◌≡◌, ◌++◌, ℕ, ◌==◌, ◌&&◌, Bool, true, List, [], ◌∷◌, Option, None, Some, drop, length, position, take, unwrap_or, if◌then◌else◌}
 use Rattle.std.specs.Str.{bytes_eq}
-use Rattle.c6x_elf_entries.specs.Entries.{symbol_entries}
-use Rattle.c6x_elf_entries.specs.Names.{name_of}
-use Rattle.c6x_elf_entries.specs.declared.abi.TheConstants.{SHT_SYMTAB}
-use Rattle.c6x_elf_entries.specs.declared.symbol_entry.Symbol.{Symbol}
+use Rattle.c6x_elf_headers.specs.Entries.{symbol_entries}
+use Rattle.c6x_elf_headers.specs.Names.{name_of}
+use Rattle.c6x_elf_headers.specs.declared.abi.TheConstants.{SHT_SYMTAB}
+use Rattle.c6x_elf_headers.specs.declared.symbol_entry.Symbol.{Symbol}
 use Rattle.c6x_elf.specs.Entries.{text_of}
 use Rattle.c6x_elf.specs.declared.section.Section.{Section}
 

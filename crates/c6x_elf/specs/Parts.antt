@@ -1,6 +1,6 @@
 use Rattle.std.specs.Prelude.{ℕ, ◌+◌, ◌*◌, ◌%◌, ◌==◌, ◌&&◌, ◌||◌, not, Bool, List, Option, length, nat_le, nat_lt, take, drop, if◌then◌else◌}
 use Rattle.c6x_base.specs.declared.limits.TheConstants.{MOST_HELD_BYTES}
-use Rattle.c6x_elf_entries.specs.declared.abi.TheConstants.{SHT_DYNSYM, SHT_NOBITS, SHT_NULL, SHT_RELA, SHT_SYMTAB}
+use Rattle.c6x_elf_headers.specs.declared.abi.TheConstants.{SHT_DYNSYM, SHT_NOBITS, SHT_NULL, SHT_RELA, SHT_SYMTAB}
 use Rattle.c6x_elf_headers.specs.Rules.{Refusal, ◌<|>◌, must}
 use Rattle.c6x_elf_headers.specs.declared.elf_rule.ElfRule.TheVariants.{Short, EntrySize, Index, Large}
 use Rattle.c6x_elf_headers.specs.declared.section_head.SectionHead.{SectionHead}

@@ -2,12 +2,12 @@
 -- Header", "Symbol Table", "Relocation" and "String Table").
 use Rattle.std.specs.Prelude.{◌≡◌, ◌≢◌, ℕ, ◌+◌, ◌%◌, ◌<◌, ◌≤◌, ◌⊎◌, All, Bool, IsSome, IsTrue, List, length, sum_by}
 use Rattle.c6x_base.specs.declared.limits.TheConstants.{MOST_HELD_BYTES, MOST_SECTIONS, MOST_SEGMENTS}
-use Rattle.c6x_elf_entries.specs.Attributes.{rela_symbol}
-use Rattle.c6x_elf_entries.specs.Entries.{rela_entries, symbol_entries}
-use Rattle.c6x_elf_entries.specs.Names.{name_of}
-use Rattle.c6x_elf_entries.specs.declared.abi.TheConstants.{SHN_LORESERVE}
-use Rattle.c6x_elf_entries.specs.declared.rela_entry.Rela.{Rela}
-use Rattle.c6x_elf_entries.specs.declared.symbol_entry.Symbol.{Symbol}
+use Rattle.c6x_elf_headers.specs.Attributes.{rela_symbol}
+use Rattle.c6x_elf_headers.specs.Entries.{rela_entries, symbol_entries}
+use Rattle.c6x_elf_headers.specs.Names.{name_of}
+use Rattle.c6x_elf_headers.specs.declared.abi.TheConstants.{SHN_LORESERVE}
+use Rattle.c6x_elf_headers.specs.declared.rela_entry.Rela.{Rela}
+use Rattle.c6x_elf_headers.specs.declared.symbol_entry.Symbol.{Symbol}
 use Rattle.c6x_elf_headers.specs.Header.{is_file_type, is_none_or_below}
 use Rattle.c6x_elf.specs.Entries.{symbols_in, text_of}
 use Rattle.c6x_elf.specs.Form.{IsSized, section_length, segment_length}

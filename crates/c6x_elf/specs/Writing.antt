@@ -4,12 +4,12 @@ use Rattle.std.specs.Str.{bytes_eq}
 use Rattle.c6x_base.specs.declared.limits.TheConstants.{MOST_FILE_BYTES}
 use Rattle.c6x_spec.specs.Places.{least_place}
 use Rattle.c6x_spec.specs.Rounded.{rounded}
-use Rattle.c6x_elf_entries.specs.declared.abi.TheConstants.{PT_LOAD}
+use Rattle.c6x_elf_headers.specs.declared.abi.TheConstants.{PT_LOAD}
 use Rattle.c6x_elf_headers.specs.declared.file_head.FileHead.{FileHead}
 use Rattle.c6x_elf_headers.specs.declared.section_head.SectionHead.{SectionHead}
 use Rattle.c6x_elf_headers.specs.declared.segment_head.SegmentHead.{SegmentHead}
-use Rattle.c6x_elf_layout.specs.HeadRows.{FileFits, SectionsFit, SegmentsFit, file_row, section_rows, segment_rows}
-use Rattle.c6x_elf_layout.specs.Laid.{Part, laid}
+use Rattle.c6x_elf_headers.specs.HeadRows.{FileFits, SectionsFit, SegmentsFit, file_row, section_rows, segment_rows}
+use Rattle.c6x_elf_headers.specs.Laid.{Part, laid}
 use Rattle.c6x_elf.specs.Parts.{has_bytes}
 use Rattle.c6x_elf.specs.declared.file.File.{File}
 use Rattle.c6x_elf.specs.declared.section.Section.{Section}

@@ -21,13 +21,11 @@ mod segment;
 mod spot;
 mod writing;
 
-pub use c6x_elf_entries::{
-    Dyn, NameTable, Rela, SectionClass, Symbol, SymbolBinding, Visibility, abi, dynamic, hash,
-    info_of, name_at, put_dynamic, put_rela, put_symbol, put_words, read_dynamic, read_rela,
-    read_relas, read_symbol, read_symbols, rela, symbol,
+pub use c6x_elf_headers::{
+    Dyn, ElfError, ElfRule, NameTable, Rela, SectionClass, Symbol, SymbolBinding, Visibility, abi,
+    dynamic, hash, info_of, name_at, pad, put_dynamic, put_part, put_rela, put_symbol, put_words,
+    read_dynamic, read_rela, read_relas, read_symbol, read_symbols, rela, symbol,
 };
-pub use c6x_elf_headers::{ElfError, ElfRule};
-pub use c6x_elf_layout::{pad, put_part};
 pub use file::File;
 pub use laws::{names_are_under_their_front, read_form_is_well_formed, segments_alone_are_tidy};
 pub use lists::{is_under, section_bytes, section_name, symbol_table, symbols};

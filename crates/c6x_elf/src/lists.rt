@@ -4,8 +4,8 @@ ghost use Rattle.c6x_elf.specs.Lists.{is_end, is_under, section_name, symbols_of
 
 use crate::file::File;
 use crate::section::Section;
-use c6x_elf_entries::abi::SHT_SYMTAB;
-use c6x_elf_entries::{Symbol, name_at, read_symbols};
+use c6x_elf_headers::abi::SHT_SYMTAB;
+use c6x_elf_headers::{Symbol, name_at, read_symbols};
 use std::alloc::{AllocError, Global};
 
 /// The bytes of the section with this number; none where there is no such section.

@@ -7,9 +7,8 @@ ghost use Rattle.c6x_elf.specs.Entries.{ArePlaced, entries_refusal, IsPlaced, is
 use crate::lists::section_bytes;
 use crate::parts::{is_relocation_table, is_symbol_table};
 use crate::section::Section;
-use c6x_elf_entries::abi::SHN_LORESERVE;
-use c6x_elf_entries::{read_half, read_word};
-use c6x_elf_headers::{ElfError, ElfRule, SectionHead, check};
+use c6x_elf_headers::abi::SHN_LORESERVE;
+use c6x_elf_headers::{ElfError, ElfRule, SectionHead, check, read_half, read_word};
 use std::alloc::{AllocError, Global};
 
 /// The name and the entries of each section, where `names` is the section of the names.

@@ -7,7 +7,7 @@ use crate::section::Section;
 use crate::segment::Segment;
 use c6x_base::Bytes;
 use c6x_base::limits::MOST_HELD_BYTES;
-use c6x_elf_entries::abi::{SHT_DYNSYM, SHT_NOBITS, SHT_NULL, SHT_RELA, SHT_SYMTAB};
+use c6x_elf_headers::abi::{SHT_DYNSYM, SHT_NOBITS, SHT_NULL, SHT_RELA, SHT_SYMTAB};
 use c6x_elf_headers::{ElfError, ElfRule, SectionHead, SegmentHead, check};
 use std::alloc::Global;
 

@@ -8,7 +8,7 @@ use crate::segment::Segment;
 use crate::spot::Spot;
 use c6x_base::limits::MOST_FILE_BYTES;
 use c6x_base::{least_multiple, least_place};
-use c6x_elf_entries::abi::PT_LOAD;
+use c6x_elf_headers::abi::PT_LOAD;
 use std::alloc::{AllocError, Global};
 
 /// The spots of segments, of which the first may begin at `start`, and the place behind them; None

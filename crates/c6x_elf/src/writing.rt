@@ -1,8 +1,8 @@
 ghost use Rattle.std.specs.Prelude.{◌≡◌, ◌+◌, ◌*◌, ◌≤◌, ◌<◌, ◌++◌, [], None, false, List, length, map, All, IsTrue, IfOk, IfErr, IfNone, IfSome, OnOk, ◌↔◌, ◌^◌, vec_len, ◌==◌, if◌then◌else◌};
 ghost use Rattle.c6x_base.specs.declared.limits.TheConstants.{MOST_FILE_BYTES, MOST_SECTIONS, MOST_SEGMENTS};
 ghost use Rattle.c6x_spec.specs.Rounded.{rounded};
-ghost use Rattle.c6x_elf_layout.specs.HeadRows.{FileFits, SectionsFit, SegmentsFit, file_row, section_rows, segment_rows};
-ghost use Rattle.c6x_elf_layout.specs.Laid.{InOrder, Part, laid};
+ghost use Rattle.c6x_elf_headers.specs.HeadRows.{FileFits, SectionsFit, SegmentsFit, file_row, section_rows, segment_rows};
+ghost use Rattle.c6x_elf_headers.specs.Laid.{InOrder, Part, laid};
 ghost use Rattle.c6x_elf.specs.Form.{HasReadForm, IsHeld, IsTidy};
 ghost use Rattle.c6x_elf.specs.Parts.{has_bytes};
 ghost use Rattle.c6x_elf.specs.Reading.{file_of, refusal_of};
@@ -16,13 +16,15 @@ use crate::segment::Segment;
 use crate::spot::Spot;
 use c6x_base::limits::MOST_FILE_BYTES;
 use c6x_base::{Bytes, least_multiple};
-use c6x_elf_entries::abi::PT_LOAD;
-use c6x_elf_headers::{ElfError, FileHead, SectionHead, SegmentHead};
-use c6x_elf_layout::{pad, put_file_head, put_part, put_section_head, put_segment_head};
+use c6x_elf_headers::abi::PT_LOAD;
+use c6x_elf_headers::{
+    ElfError, FileHead, SectionHead, SegmentHead, pad, put_file_head, put_part, put_section_head,
+    put_segment_head,
+};
 use std::alloc::{AllocError, Global};
 
 /// Puts program headers from `at` on.
-#[tactic(auto, unfolding(c6x_elf_layout::specs::HeadRows::segment_rows))]
+#[tactic(auto, unfolding(c6x_elf_headers::specs::HeadRows::segment_rows))]
 fn put_segment_heads(
     out: &mut Vec<u8>,
     at: u32,
@@ -44,7 +46,7 @@ fn put_segment_heads(
 }
 
 /// Puts section headers from `at` on.
-#[tactic(auto, unfolding(c6x_elf_layout::specs::HeadRows::section_rows))]
+#[tactic(auto, unfolding(c6x_elf_headers::specs::HeadRows::section_rows))]
 fn put_section_heads(
     out: &mut Vec<u8>,
     at: u32,

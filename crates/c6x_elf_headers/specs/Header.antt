@@ -1,7 +1,7 @@
 use Rattle.std.specs.Prelude.{ℕ, ◌≤◌, ◌==◌, IsTrue, ◌&&◌, ◌||◌, Bool, List, Option, length, nat_le, nat_lt, slice_index}
 use Rattle.c6x_spec.specs.Numbers.{half_at, word_at}
 use Rattle.c6x_base.specs.declared.limits.TheConstants.{MOST_FILE_BYTES, MOST_SECTIONS, MOST_SEGMENTS}
-use Rattle.c6x_elf_entries.specs.declared.abi.TheConstants.{ELFCLASS32, ELFDATA2LSB, EM_TI_C6000, ET_DYN, ET_EXEC, ET_REL, EV_CURRENT}
+use Rattle.c6x_elf_headers.specs.declared.abi.TheConstants.{ELFCLASS32, ELFDATA2LSB, EM_TI_C6000, ET_DYN, ET_EXEC, ET_REL, EV_CURRENT}
 use Rattle.c6x_elf_headers.specs.Heads.{is_big}
 use Rattle.c6x_elf_headers.specs.declared.file_head.FileHead.{FileHead}
 use Rattle.c6x_elf_headers.specs.Rules.{Refusal, ◌<|>◌, must, whole}

@@ -2,7 +2,7 @@ use Rattle.std.specs.Prelude.{ℕ, ◌+◌, ◌*◌, ◌<◌, ◌≤◌, ◌==�
 use Rattle.std.specs.List.{range_with_len}
 use Rattle.c6x_base.specs.declared.limits.TheConstants.{MOST_FILE_BYTES}
 use Rattle.c6x_spec.specs.Numbers.{half_at, word_at}
-use Rattle.c6x_elf_entries.specs.declared.abi.TheConstants.{ELFDATA2MSB}
+use Rattle.c6x_elf_headers.specs.declared.abi.TheConstants.{ELFDATA2MSB}
 use Rattle.c6x_elf_headers.specs.declared.file_head.FileHead.{FileHead}
 use Rattle.c6x_elf_headers.specs.declared.section_head.SectionHead.{SectionHead}
 use Rattle.c6x_elf_headers.specs.declared.segment_head.SegmentHead.{SegmentHead}

@@ -1,3 +1,11 @@
+pub mod Attributes
+pub mod Entries
+pub mod EntryRows
+pub mod Held
+pub mod Names
+pub mod Rows
 pub mod Rules
 pub mod Heads
 pub mod Header
+pub mod HeadRows
+pub mod Laid

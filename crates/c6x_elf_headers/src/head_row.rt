@@ -2,9 +2,9 @@ ghost use Rattle.std.specs.Prelude.{◌≡◌, ◌+◌, ◌*◌, ◌<◌, ◌≤
 ghost use Rattle.c6x_base.specs.declared.limits.TheConstants.{MOST_FILE_BYTES};
 ghost use Rattle.c6x_elf_headers.specs.Heads.{AreSectionHeadsNear, AreSegmentHeadsNear, section_head, section_heads, segment_head, segment_heads};
 
+use crate::number::read_word;
 use crate::section_head::SectionHead;
 use crate::segment_head::SegmentHead;
-use c6x_elf_entries::read_word;
 use std::alloc::{AllocError, Global};
 
 /// The `count` program headers from `at` on.

@@ -4,15 +4,15 @@ ghost use Rattle.c6x_elf_headers.specs.Header.{HeadKeeps, counts_refusal, header
 ghost use Rattle.c6x_elf_headers.specs.Heads.{file_head, is_big};
 ghost use Rattle.c6x_elf_headers.specs.Rules.{Passes};
 
+use crate::abi::{
+    ELFCLASS32, ELFDATA2LSB, ELFDATA2MSB, EM_TI_C6000, ET_DYN, ET_EXEC, ET_REL, EV_CURRENT,
+};
 use crate::checks::{check, need};
 use crate::elf_error::ElfError;
 use crate::elf_rule::ElfRule;
 use crate::file_head::FileHead;
+use crate::number::{read_half, read_word};
 use c6x_base::limits::{MOST_FILE_BYTES, MOST_SECTIONS, MOST_SEGMENTS};
-use c6x_elf_entries::abi::{
-    ELFCLASS32, ELFDATA2LSB, ELFDATA2MSB, EM_TI_C6000, ET_DYN, ET_EXEC, ET_REL, EV_CURRENT,
-};
-use c6x_elf_entries::{read_half, read_word};
 
 /// The file header, or the first broken rule of the length and the header.
 #[tactic(auto, unfolding(crate::specs::Header::header_refusal))]

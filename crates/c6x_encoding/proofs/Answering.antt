@@ -3,17 +3,17 @@
 use Rattle.std.proofs.Common.{◌≡◌, ℕ, ◌↔◌, Bool, true, false, IsTrue, List, [], ◌∷◌, Option, Some, None, refl, sym, ◌∙◌, ap}
 use Rattle.std.specs.Option.{option_map, option_and_then, is_some}
 use Rattle.c6x_base.specs.declared.side.Side.{Side}
-use Rattle.c6x_instr.specs.declared.arith.Arith.{Arith}
-use Rattle.c6x_instr.specs.declared.first.First.{First}
-use Rattle.c6x_instr.specs.declared.instr.Instr.{Instr}
-use Rattle.c6x_instr.specs.declared.op.Op.{Op}
-use Rattle.c6x_instr.specs.declared.op.Op.TheVariants.{Two}
-use Rattle.c6x_instr.specs.declared.unit_kind.UnitKind.{UnitKind}
-use Rattle.c6x_instr.specs.declared.unit_kind.UnitKind.TheVariants.{L, S, D, M}
-use Rattle.c6x_instr.specs.Spelling.{Part, Condition, Dst, Src2, Src1, Crossed, Sided, Chained, Slot, two_slots, form_of, part_of, condition_bits, first_bits, is_constant, bit_of, side_bit, Spells, IsValid}
+use Rattle.c6x_encoding.specs.declared.arith.Arith.{Arith}
+use Rattle.c6x_encoding.specs.declared.first.First.{First}
+use Rattle.c6x_encoding.specs.declared.instr.Instr.{Instr}
+use Rattle.c6x_encoding.specs.declared.op.Op.{Op}
+use Rattle.c6x_encoding.specs.declared.op.Op.TheVariants.{Two}
+use Rattle.c6x_encoding.specs.declared.unit_kind.UnitKind.{UnitKind}
+use Rattle.c6x_encoding.specs.declared.unit_kind.UnitKind.TheVariants.{L, S, D, M}
+use Rattle.c6x_encoding.specs.Spelling.{Part, Condition, Dst, Src2, Src1, Crossed, Sided, Chained, Slot, two_slots, form_of, part_of, condition_bits, first_bits, is_constant, bit_of, side_bit, Spells, IsValid}
 use Rattle.c6x_encoding.specs.declared.operands.Operands.{Operands}
 use Rattle.c6x_encoding.specs.Encoded.{two_code, fields_of, joined_fields, two_fields, layout_of, is_allowed, encoded}
-use Rattle.c6x_instr.specs.Decoded.{made, decoded}
+use Rattle.c6x_encoding.specs.Decoded.{made, decoded}
 use Rattle.c6x_encoding.specs.Groups.{tree, form_by}
 use Rattle.c6x_encoding.proofs.Trees.{form_by-tree}
 use Rattle.c6x_encoding.proofs.Facts.{spells-encoded, encoded-spelled, spells-decoded, decoded-spelled}

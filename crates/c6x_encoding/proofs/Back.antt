@@ -6,19 +6,19 @@ use Rattle.std.proofs.lemmas.Bool.Decides.{nat_tests}
 use Rattle.c6x_spec.specs.Fields.{bits_of}
 use Rattle.c6x_base.specs.declared.side.Side.{Side}
 use Rattle.c6x_base.specs.declared.side.Side.TheVariants.{A, B}
-use Rattle.c6x_instr.specs.declared.access.Access.{Access}
-use Rattle.c6x_instr.specs.declared.access.Access.TheVariants.{Ldhu}
-use Rattle.c6x_instr.specs.declared.cond.Cond.{Cond}
-use Rattle.c6x_instr.specs.declared.cond.Cond.TheVariants.{Always, If}
-use Rattle.c6x_instr.specs.declared.cond_reg.CondReg.TheVariants.{B0, B1, B2, A1, A2, A0}
-use Rattle.c6x_instr.specs.declared.first.First.{First}
-use Rattle.c6x_instr.specs.declared.first.First.TheVariants.{Register, Constant}
-use Rattle.c6x_instr.specs.declared.instr.Instr.{Instr}
-use Rattle.c6x_instr.specs.declared.op.Op.{Op}
-use Rattle.c6x_instr.specs.declared.op.Op.TheVariants.{Two, Move, Branch, Callp, BranchNop, BranchReg, BranchRegNop, AddKpc, Nop, Short, Long}
-use Rattle.c6x_instr.specs.declared.unit_kind.UnitKind.TheVariants.{L, S, D, M}
-use Rattle.c6x_instr.specs.Spelling.{Part, Slot, two_slots, bit_of, side_bit, condition_bits, access_bits, first_bits, is_constant, count_bits, part_of, form_of, AreBits, Spells}
-use Rattle.c6x_instr.specs.Decoded.{is_set, side_at, side_from, condition_from, access_from, first_from, made}
+use Rattle.c6x_encoding.specs.declared.access.Access.{Access}
+use Rattle.c6x_encoding.specs.declared.access.Access.TheVariants.{Ldhu}
+use Rattle.c6x_encoding.specs.declared.cond.Cond.{Cond}
+use Rattle.c6x_encoding.specs.declared.cond.Cond.TheVariants.{Always, If}
+use Rattle.c6x_encoding.specs.declared.cond_reg.CondReg.TheVariants.{B0, B1, B2, A1, A2, A0}
+use Rattle.c6x_encoding.specs.declared.first.First.{First}
+use Rattle.c6x_encoding.specs.declared.first.First.TheVariants.{Register, Constant}
+use Rattle.c6x_encoding.specs.declared.instr.Instr.{Instr}
+use Rattle.c6x_encoding.specs.declared.op.Op.{Op}
+use Rattle.c6x_encoding.specs.declared.op.Op.TheVariants.{Two, Move, Branch, Callp, BranchNop, BranchReg, BranchRegNop, AddKpc, Nop, Short, Long}
+use Rattle.c6x_encoding.specs.declared.unit_kind.UnitKind.TheVariants.{L, S, D, M}
+use Rattle.c6x_encoding.specs.Spelling.{Part, Slot, two_slots, bit_of, side_bit, condition_bits, access_bits, first_bits, is_constant, count_bits, part_of, form_of, AreBits, Spells}
+use Rattle.c6x_encoding.specs.Decoded.{is_set, side_at, side_from, condition_from, access_from, first_from, made}
 use Rattle.c6x_encoding.specs.Encoded.{slots_for}
 use Rattle.c6x_encoding.proofs.Forms.{slots_for-row}
 

@@ -4,13 +4,13 @@ use Rattle.std.proofs.Common.{◌≡◌, ℕ, ◌^◌, ◌<◌, ◌≤◌, nat_l
 use Rattle.std.proofs.lemmas.Nat.{pow_pos, mod_below}
 use Rattle.std.proofs.lemmas.Bool.Decides.{nat_tests}
 use Rattle.c6x_spec.specs.Fields.{bits_of}
-use Rattle.c6x_instr.specs.declared.instr.Instr.{Instr}
-use Rattle.c6x_instr.specs.declared.op.Op.{Op}
-use Rattle.c6x_instr.specs.declared.op.Op.TheVariants.{Two, Move, Branch, Callp, BranchNop, BranchReg, BranchRegNop, AddKpc, Nop, Short, Long}
-use Rattle.c6x_instr.specs.declared.cond.Cond.{Cond}
-use Rattle.c6x_instr.specs.declared.unit_kind.UnitKind.TheVariants.{L, S, D, M}
-use Rattle.c6x_instr.specs.Spelling.{Slot, two_slots, count_bits, part_of, form_of, AreBits, IsValid}
-use Rattle.c6x_instr.specs.Bounds.{FitsOp}
+use Rattle.c6x_encoding.specs.declared.instr.Instr.{Instr}
+use Rattle.c6x_encoding.specs.declared.op.Op.{Op}
+use Rattle.c6x_encoding.specs.declared.op.Op.TheVariants.{Two, Move, Branch, Callp, BranchNop, BranchReg, BranchRegNop, AddKpc, Nop, Short, Long}
+use Rattle.c6x_encoding.specs.declared.cond.Cond.{Cond}
+use Rattle.c6x_encoding.specs.declared.unit_kind.UnitKind.TheVariants.{L, S, D, M}
+use Rattle.c6x_encoding.specs.Spelling.{Slot, two_slots, count_bits, part_of, form_of, AreBits, IsValid}
+use Rattle.c6x_encoding.specs.Bounds.{FitsOp}
 use Rattle.c6x_encoding.specs.Encoded.{slots_for}
 use Rattle.c6x_encoding.proofs.Back.{slots_for-spelled, at_slots, mapped_some}
 

@@ -4,8 +4,8 @@ use Rattle.std.proofs.Common.{◌≡◌, ℕ, zero, suc, ◌+◌, ◌-◌, ◌*�
 use Rattle.std.proofs.lemmas.Nat.{shr-shr, mod-pow-add}
 use Rattle.std.proofs.lemmas.Bool.{and_parts, and_from, or_cases, leb-true, ltb-true, eqb-true, cases_Bool, cond-true, cond-false}
 use Rattle.c6x_spec.specs.Fields.{bits_of}
-use Rattle.c6x_instr.specs.declared.form.Form.{Form}
-use Rattle.c6x_instr.specs.Spelling.{Part, Slot, Fixed, Named, width, is_part, AreBits}
+use Rattle.c6x_encoding.specs.declared.form.Form.{Form}
+use Rattle.c6x_encoding.specs.Spelling.{Part, Slot, Fixed, Named, width, is_part, AreBits}
 use Rattle.c6x_encoding.specs.Encoded.{slots_for, l_code, s_code, d_code, m_code}
 use Rattle.c6x_encoding.specs.Groups.{Tree, Gives, Nothing, Test, form_by, tree, even_tree, constant_tree, displacement_tree, l_tree, s_tree, d_tree, m_tree}
 use Rattle.c6x_encoding.specs.Left.{Bits, all_hold, left_bits}

@@ -4,16 +4,16 @@ use Rattle.std.proofs.Common.{◌≡◌, ℕ, ◌%◌, ◌^◌, ◌<◌, inl, in
 use Rattle.std.specs.Option.{option_and_then}
 use Rattle.std.proofs.lemmas.Option.{cond_some}
 use Rattle.std.proofs.lemmas.Bool.{cases_Bool, cond-true, cond-false, ltb-true, lt-ltb, both_ways}
-use Rattle.c6x_instr.specs.declared.cond.Cond.{Cond}
-use Rattle.c6x_instr.specs.declared.cond.Cond.TheVariants.{Always, If}
-use Rattle.c6x_instr.specs.declared.cond_reg.CondReg.TheVariants.{B0, B1, B2, A1, A2, A0}
-use Rattle.c6x_instr.specs.declared.form.Form.{Form}
-use Rattle.c6x_instr.specs.declared.form.Form.TheVariants.{Two as TwoForm, Move as MoveForm}
-use Rattle.c6x_instr.specs.declared.instr.Instr.{Instr}
-use Rattle.c6x_instr.specs.declared.op.Op.{Op}
-use Rattle.c6x_instr.specs.declared.op.Op.TheVariants.{Nop, Short}
-use Rattle.c6x_instr.specs.Spelling.{Part, Condition, Count, Mode, Slot, Row, table, is_part, condition_bits, part_of, op_part, form_of, AreBits, IsRow, Spells}
-use Rattle.c6x_instr.specs.Decoded.{made, op_made, are_bits, decoded, decoded_by}
+use Rattle.c6x_encoding.specs.declared.cond.Cond.{Cond}
+use Rattle.c6x_encoding.specs.declared.cond.Cond.TheVariants.{Always, If}
+use Rattle.c6x_encoding.specs.declared.cond_reg.CondReg.TheVariants.{B0, B1, B2, A1, A2, A0}
+use Rattle.c6x_encoding.specs.declared.form.Form.{Form}
+use Rattle.c6x_encoding.specs.declared.form.Form.TheVariants.{Two as TwoForm, Move as MoveForm}
+use Rattle.c6x_encoding.specs.declared.instr.Instr.{Instr}
+use Rattle.c6x_encoding.specs.declared.op.Op.{Op}
+use Rattle.c6x_encoding.specs.declared.op.Op.TheVariants.{Nop, Short}
+use Rattle.c6x_encoding.specs.Spelling.{Part, Condition, Count, Mode, Slot, Row, table, is_part, condition_bits, part_of, op_part, form_of, AreBits, IsRow, Spells}
+use Rattle.c6x_encoding.specs.Decoded.{made, op_made, are_bits, decoded, decoded_by}
 use Rattle.c6x_encoding.specs.Encoded.{slots_for, fields_of, widths, joined, all_fit, joined_fields, is_allowed, encoded}
 use Rattle.c6x_encoding.proofs.Trees.{form_by-tree}
 use Rattle.c6x_encoding.proofs.Slots.{widths-fields_of, values_joined, values_fit, joined_values, joined_below, bits_values, values_bits, are_bits_true, true_are_bits}

@@ -5,12 +5,12 @@ use Rattle.std.proofs.lemmas.Bool.{and_parts, and_from, both_ways, ltb-true}
 use Rattle.c6x_spec.specs.Fields.{bits_of}
 use Rattle.c6x_base.specs.declared.side.Side.{Side}
 use Rattle.c6x_base.specs.declared.side.Side.TheVariants.{A, B}
-use Rattle.c6x_instr.specs.declared.form.Form.{Form}
-use Rattle.c6x_instr.specs.declared.form.Form.TheVariants.{Two, Move, Branch, Callp, BranchNop, BranchReg, BranchRegNop, AddKpc, Nop, Short, Long}
-use Rattle.c6x_instr.specs.declared.instr.Instr.{Instr}
-use Rattle.c6x_instr.specs.declared.unit_kind.UnitKind.TheVariants.{L, S, D, M}
-use Rattle.c6x_instr.specs.Spelling.{Part, Condition, Count, Mode, Slot, Fixed, Named, Row, table, width, two_slots, is_part, bit_of, side_bit, condition_bits, access_bits, first_bits, count_bits, part_of, form_of, AreBits, Spells}
-use Rattle.c6x_instr.specs.Decoded.{is_set, side_at, side_from, condition_from, access_from, first_from, made, decoded}
+use Rattle.c6x_encoding.specs.declared.form.Form.{Form}
+use Rattle.c6x_encoding.specs.declared.form.Form.TheVariants.{Two, Move, Branch, Callp, BranchNop, BranchReg, BranchRegNop, AddKpc, Nop, Short, Long}
+use Rattle.c6x_encoding.specs.declared.instr.Instr.{Instr}
+use Rattle.c6x_encoding.specs.declared.unit_kind.UnitKind.TheVariants.{L, S, D, M}
+use Rattle.c6x_encoding.specs.Spelling.{Part, Condition, Count, Mode, Slot, Fixed, Named, Row, table, width, two_slots, is_part, bit_of, side_bit, condition_bits, access_bits, first_bits, count_bits, part_of, form_of, AreBits, Spells}
+use Rattle.c6x_encoding.specs.Decoded.{is_set, side_at, side_from, condition_from, access_from, first_from, made, decoded}
 use Rattle.c6x_encoding.specs.Encoded.{slots_for}
 use Rattle.c6x_encoding.specs.Groups.{form_by, tree}
 use Rattle.c6x_encoding.specs.Left.{Bits, all_hold, left_bits, may_hold, is_of_row}

@@ -1,3 +1,4 @@
+pub mod Worked
 pub mod Trees
 pub mod Slots
 pub mod Forms

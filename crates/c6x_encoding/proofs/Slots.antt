@@ -5,8 +5,8 @@ use Rattle.std.proofs.lemmas.Nat.{pow-add, pow_pos, mod-pow-add, mod_below, mul-
 use Rattle.std.proofs.lemmas.Bool.{and_parts, and_from, ltb-true, lt-ltb, eqb-true, eq-eqb}
 use Rattle.std.proofs.Math.Pow.{mod-mod-pow}
 use Rattle.c6x_spec.specs.Fields.{bits_of}
-use Rattle.c6x_instr.specs.Spelling.{Part, Slot, Fixed, Named, width, is_part, AreBits}
-use Rattle.c6x_instr.specs.Decoded.{are_bits}
+use Rattle.c6x_encoding.specs.Spelling.{Part, Slot, Fixed, Named, width, is_part, AreBits}
+use Rattle.c6x_encoding.specs.Decoded.{are_bits}
 use Rattle.c6x_encoding.specs.Encoded.{fields_of, widths, joined, all_fit}
 
 -- The word's bits are the values of the fields.

@@ -5,9 +5,9 @@ use Rattle.std.proofs.lemmas.Nat.{shr-shr, field_of}
 use Rattle.std.proofs.lemmas.Bool.{and_parts, both_ways, not-true, leb-true, eqb-true, ne_eqb, cases_Bool, cond-true, cond-false}
 use Rattle.std.proofs.Math.Pow.{mod-mod-pow}
 use Rattle.c6x_spec.specs.Fields.{bits_of}
-use Rattle.c6x_instr.specs.declared.form.Form.{Form}
-use Rattle.c6x_instr.specs.Spelling.{Part, Slot, Fixed, Named, Row, table, width, is_part, AreBits, IsRow, Spells, part_of, form_of}
-use Rattle.c6x_instr.specs.declared.instr.Instr.{Instr}
+use Rattle.c6x_encoding.specs.declared.form.Form.{Form}
+use Rattle.c6x_encoding.specs.Spelling.{Part, Slot, Fixed, Named, Row, table, width, is_part, AreBits, IsRow, Spells, part_of, form_of}
+use Rattle.c6x_encoding.specs.declared.instr.Instr.{Instr}
 use Rattle.c6x_encoding.specs.Groups.{Tree, Gives, Nothing, Test, form_by, tree, even_tree, constant_tree, displacement_tree, l_tree, s_tree, d_tree, m_tree}
 
 -- The head and the tail of two equal maps.

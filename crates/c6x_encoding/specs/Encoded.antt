@@ -2,20 +2,20 @@
 
 use Rattle.std.specs.Prelude.{ℕ, ◌+◌, ◌*◌, ◌^◌, nat_lt, Bool, true, false, ◌&&◌, List, [], ◌∷◌, Option, None, Some, if◌then◌else◌}
 use Rattle.std.specs.Option.{option_map, option_and_then}
-use Rattle.c6x_instr.specs.declared.arith.Arith.{Arith}
-use Rattle.c6x_instr.specs.declared.arith.Arith.TheVariants.{Add, Sub, And, Or, Xor, CmpEq, CmpGt, CmpLt, CmpGtu, CmpLtu, Shl, Shr, Shru, Mpy, Mpyu}
-use Rattle.c6x_instr.specs.declared.form.Form.{Form}
-use Rattle.c6x_instr.specs.declared.form.Form.TheVariants.{Two as TwoForm, Move as MoveForm, Branch as BranchForm, Callp as CallpForm, BranchNop as BranchNopForm, BranchReg as BranchRegForm, BranchRegNop as BranchRegNopForm, AddKpc as AddKpcForm, Nop as NopForm, Short as ShortForm, Long as LongForm}
-use Rattle.c6x_instr.specs.declared.instr.Instr.{Instr}
-use Rattle.c6x_instr.specs.declared.move_kind.MoveKind.{MoveKind}
-use Rattle.c6x_instr.specs.declared.move_kind.MoveKind.TheVariants.{Mvk, Mvkh, Addk}
-use Rattle.c6x_instr.specs.declared.op.Op.{Op}
-use Rattle.c6x_instr.specs.declared.op.Op.TheVariants.{Nop, Short}
-use Rattle.c6x_instr.specs.declared.unit_kind.UnitKind.{UnitKind}
-use Rattle.c6x_instr.specs.declared.unit_kind.UnitKind.TheVariants.{L, S, D, M}
+use Rattle.c6x_encoding.specs.declared.arith.Arith.{Arith}
+use Rattle.c6x_encoding.specs.declared.arith.Arith.TheVariants.{Add, Sub, And, Or, Xor, CmpEq, CmpGt, CmpLt, CmpGtu, CmpLtu, Shl, Shr, Shru, Mpy, Mpyu}
+use Rattle.c6x_encoding.specs.declared.form.Form.{Form}
+use Rattle.c6x_encoding.specs.declared.form.Form.TheVariants.{Two as TwoForm, Move as MoveForm, Branch as BranchForm, Callp as CallpForm, BranchNop as BranchNopForm, BranchReg as BranchRegForm, BranchRegNop as BranchRegNopForm, AddKpc as AddKpcForm, Nop as NopForm, Short as ShortForm, Long as LongForm}
+use Rattle.c6x_encoding.specs.declared.instr.Instr.{Instr}
+use Rattle.c6x_encoding.specs.declared.move_kind.MoveKind.{MoveKind}
+use Rattle.c6x_encoding.specs.declared.move_kind.MoveKind.TheVariants.{Mvk, Mvkh, Addk}
+use Rattle.c6x_encoding.specs.declared.op.Op.{Op}
+use Rattle.c6x_encoding.specs.declared.op.Op.TheVariants.{Nop, Short}
+use Rattle.c6x_encoding.specs.declared.unit_kind.UnitKind.{UnitKind}
+use Rattle.c6x_encoding.specs.declared.unit_kind.UnitKind.TheVariants.{L, S, D, M}
 use Rattle.c6x_encoding.specs.declared.operands.Layout.{Layout}
 use Rattle.c6x_encoding.specs.declared.operands.Operands.{Operands}
-use Rattle.c6x_instr.specs.Spelling.{Part, Count, Mode, Condition, Dst, Src2, Constant16, Crossed, Field21, Field12, Field7, Waits, Chained, Slot, Fixed, Named, is_part, part_of, form_of, count_bits, two_slots, ending, on_s2, short_slots, long_slots}
+use Rattle.c6x_encoding.specs.Spelling.{Part, Count, Mode, Condition, Dst, Src2, Constant16, Crossed, Field21, Field12, Field7, Waits, Chained, Slot, Fixed, Named, is_part, part_of, form_of, count_bits, two_slots, ending, on_s2, short_slots, long_slots}
 
 -- The opcodes of .L, .S, .D and .M, by operation and whether src1 is a constant.
 unfoldable pub l_code : Arith → Bool → Option ℕ

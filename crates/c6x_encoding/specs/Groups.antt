@@ -2,11 +2,11 @@
 
 use Rattle.std.specs.Prelude.{ℕ, nat_eq, true, false, Option, None, Some, if◌then◌else◌}
 use Rattle.c6x_spec.specs.Fields.{bits_of}
-use Rattle.c6x_instr.specs.declared.arith.Arith.TheVariants.{Add, Sub, And, Or, Xor, CmpEq, CmpGt, CmpLt, CmpGtu, CmpLtu, Shl, Shr, Shru, Mpy, Mpyu}
-use Rattle.c6x_instr.specs.declared.form.Form.{Form}
-use Rattle.c6x_instr.specs.declared.form.Form.TheVariants.{Two, Move, Branch, Callp, BranchNop, BranchReg, BranchRegNop, AddKpc, Nop, Short, Long}
-use Rattle.c6x_instr.specs.declared.move_kind.MoveKind.TheVariants.{Mvk, Mvkh, Addk}
-use Rattle.c6x_instr.specs.declared.unit_kind.UnitKind.TheVariants.{L, S, D, M}
+use Rattle.c6x_encoding.specs.declared.arith.Arith.TheVariants.{Add, Sub, And, Or, Xor, CmpEq, CmpGt, CmpLt, CmpGtu, CmpLtu, Shl, Shr, Shru, Mpy, Mpyu}
+use Rattle.c6x_encoding.specs.declared.form.Form.{Form}
+use Rattle.c6x_encoding.specs.declared.form.Form.TheVariants.{Two, Move, Branch, Callp, BranchNop, BranchReg, BranchRegNop, AddKpc, Nop, Short, Long}
+use Rattle.c6x_encoding.specs.declared.move_kind.MoveKind.TheVariants.{Mvk, Mvkh, Addk}
+use Rattle.c6x_encoding.specs.declared.unit_kind.UnitKind.TheVariants.{L, S, D, M}
 
 -- A tree of tests, each of whether some bits of a word have a value.
 pub data Tree : Type 0 where

@@ -3,11 +3,11 @@
 
 use Rattle.std.specs.Prelude.{ℕ, nat_eq, Bool, true, ◌&&◌, List, [], ◌∷◌}
 use Rattle.c6x_spec.specs.Fields.{bits_of}
-use Rattle.c6x_instr.specs.declared.form.Form.{Form}
-use Rattle.c6x_instr.specs.declared.form.Form.TheVariants.{Two, Callp, BranchNop, BranchReg, BranchRegNop, AddKpc, Nop, Short, Long}
-use Rattle.c6x_instr.specs.declared.unit_kind.UnitKind.{UnitKind}
-use Rattle.c6x_instr.specs.declared.unit_kind.UnitKind.TheVariants.{L, S, D, M}
-use Rattle.c6x_instr.specs.Spelling.{Condition, Count, Mode, is_part}
+use Rattle.c6x_encoding.specs.declared.form.Form.{Form}
+use Rattle.c6x_encoding.specs.declared.form.Form.TheVariants.{Two, Callp, BranchNop, BranchReg, BranchRegNop, AddKpc, Nop, Short, Long}
+use Rattle.c6x_encoding.specs.declared.unit_kind.UnitKind.{UnitKind}
+use Rattle.c6x_encoding.specs.declared.unit_kind.UnitKind.TheVariants.{L, S, D, M}
+use Rattle.c6x_encoding.specs.Spelling.{Condition, Count, Mode, is_part}
 
 -- So many bits from a place on have a value.
 pub record Bits : Type 0 where

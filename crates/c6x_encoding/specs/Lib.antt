@@ -1,3 +1,10 @@
+pub mod Registers
+pub mod Spelling
+pub mod Decoded
+pub mod Values
+pub mod Rows
+pub mod Bounds
+pub mod Families
 pub mod Groups
 pub mod Encoded
 pub mod Left

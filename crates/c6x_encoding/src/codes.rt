@@ -1,9 +1,14 @@
 ghost use Rattle.std.specs.Prelude.{◌≡◌, ◌≤◌, ℕ};
-ghost use Rattle.c6x_instr.specs.Spelling.{access_bits, bit_of, condition_bits, creg_of, side_bit};
+ghost use Rattle.c6x_encoding.specs.Spelling.{access_bits, bit_of, condition_bits, creg_of, side_bit};
 ghost use Rattle.c6x_encoding.specs.Encoded.{two_code, l_code, s_code, d_code, m_code, move_code};
 
+use crate::access::Access;
+use crate::arith::Arith;
+use crate::cond::Cond;
+use crate::cond_reg::CondReg;
+use crate::move_kind::MoveKind;
+use crate::unit_kind::UnitKind;
 use c6x_base::Side;
-use c6x_instr::{Access, Arith, Cond, CondReg, MoveKind, UnitKind};
 
 /// The opcode of an operation on two operands, where the unit has it.
 pub fn two_bits(unit: UnitKind, arith: Arith, constant: bool) -> Option<u32>

@@ -1,13 +1,20 @@
 ghost use Rattle.std.specs.Prelude.{◌≡◌, ◌↔◌, ◌+◌, ◌<◌, ◌/◌, ◌%◌, nat_eq, IfSome, ℕ};
 ghost use Rattle.c6x_spec.specs.Fields.{bits_of};
-ghost use Rattle.c6x_instr.specs.declared.instr.Instr.{Instr};
-ghost use Rattle.c6x_instr.specs.Spelling.{IsValid, Spells};
-ghost use Rattle.c6x_instr.specs.Decoded.{access_from, condition_from, condition_made, cross_at, decoded, first_from, is_set, made, op_made, side_at};
+ghost use Rattle.c6x_encoding.specs.declared.instr.Instr.{Instr};
+ghost use Rattle.c6x_encoding.specs.Spelling.{IsValid, Spells};
+ghost use Rattle.c6x_encoding.specs.Decoded.{access_from, condition_from, condition_made, cross_at, decoded, first_from, is_set, made, op_made, side_at};
 
+use crate::access::Access;
+use crate::cond::Cond;
+use crate::cond_reg::CondReg;
+use crate::first::First;
+use crate::form::Form;
 use crate::groups::form;
+use crate::instr::Instr;
+use crate::op::Op;
 use crate::rests::is_of_row;
+use crate::unit_kind::UnitKind;
 use c6x_base::{Side, bits};
-use c6x_instr::{Access, Cond, CondReg, First, Form, Instr, Op, UnitKind};
 
 /// The instruction that the word spells, and None exactly where no row of the table spells it
 /// (SPRU732, "Instruction Descriptions" and the opcode maps). The work is the same for every word:

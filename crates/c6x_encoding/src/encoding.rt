@@ -1,8 +1,8 @@
 ghost use Rattle.std.specs.Prelude.{◌↔◌, ℕ, IsTrue};
-ghost use Rattle.c6x_instr.specs.Spelling.{Spells, IsValid};
+ghost use Rattle.c6x_encoding.specs.Spelling.{Spells, IsValid};
 
+use crate::instr::Instr;
 use crate::words::word_of;
-use c6x_instr::Instr;
 
 /// Whether some word spells the instruction: its parts are in their ranges, its operation is one of
 /// its unit, and it has a condition and a cross path only where its form has them.

@@ -2,8 +2,11 @@ ghost use Rattle.std.specs.Prelude.{◌≡◌, Option, nat_eq, if◌then◌else�
 ghost use Rattle.c6x_spec.specs.Fields.{bits_of};
 ghost use Rattle.c6x_encoding.specs.Groups.{form_by, tree, even_tree, constant_tree, displacement_tree, l_tree, s_tree, d_tree, m_tree};
 
+use crate::arith::Arith;
+use crate::form::Form;
+use crate::move_kind::MoveKind;
+use crate::unit_kind::UnitKind;
 use c6x_base::bits;
-use c6x_instr::{Arith, Form, MoveKind, UnitKind};
 
 /// The form that a word has, if it spells an instruction at all.
 #[tactic(auto, unfolding(crate::specs::Groups::tree))]

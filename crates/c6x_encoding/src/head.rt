@@ -1,4 +1,4 @@
-use c6x_instr::Cond;
+use crate::cond::Cond;
 
 /// What every word has: its condition and its p bit.
 #[derive(Clone, Copy, Debug)]

@@ -1,7 +1,7 @@
 ghost use Rattle.std.specs.Prelude.{◌≡◌, ◌↔◌, ℕ, Some};
-ghost use Rattle.c6x_instr.specs.declared.instr.Instr.{Instr};
-ghost use Rattle.c6x_instr.specs.Spelling.{Spells, IsValid};
-ghost use Rattle.c6x_instr.specs.Decoded.{decoded};
+ghost use Rattle.c6x_encoding.specs.declared.instr.Instr.{Instr};
+ghost use Rattle.c6x_encoding.specs.Spelling.{Spells, IsValid};
+ghost use Rattle.c6x_encoding.specs.Decoded.{decoded};
 
 /// A word spells at most one instruction.
 pub fn at_most_one_instruction()

@@ -1,11 +1,12 @@
 ghost use Rattle.std.specs.Prelude.{◌≡◌, ◌&&◌, nat_eq};
 ghost use Rattle.c6x_spec.specs.Fields.{bits_of};
-ghost use Rattle.c6x_instr.specs.Spelling.{is_part, Condition, Count, Mode};
+ghost use Rattle.c6x_encoding.specs.Spelling.{is_part, Condition, Count, Mode};
 ghost use Rattle.c6x_encoding.specs.Left.{all_hold, is_of_row, left_bits, may_hold, unit_bits};
 
+use crate::form::Form;
+use crate::unit_kind::UnitKind;
 use crate::words::is_mode;
 use c6x_base::bits;
-use c6x_instr::{Form, UnitKind};
 
 /// Whether a word that the groups lead to the form is of its row: the fixed bits that none of the tests that it met has
 /// said, and what its fields hold.

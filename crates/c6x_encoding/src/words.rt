@@ -1,14 +1,20 @@
 ghost use Rattle.std.specs.Prelude.{◌≡◌, ℕ, ◌+◌, ◌≤◌, Bool, true};
-ghost use Rattle.c6x_instr.specs.Families.{is_access, is_computing};
-ghost use Rattle.c6x_instr.specs.Spelling.{first_bits, is_constant, is_part, Mode, Count};
+ghost use Rattle.c6x_encoding.specs.Families.{is_access, is_computing};
+ghost use Rattle.c6x_encoding.specs.Spelling.{first_bits, is_constant, is_part, Mode, Count};
 ghost use Rattle.c6x_encoding.specs.Encoded.{encoded, joined_fields, two_fields, layout_of};
 
+use crate::access::Access;
+use crate::arith::Arith;
 use crate::codes::{bit, condition_number, move_bits, opcode, side_number, two_bits};
 use crate::fields::join;
+use crate::first::First;
 use crate::head::Head;
+use crate::instr::Instr;
+use crate::move_kind::MoveKind;
+use crate::op::Op;
 use crate::operands::{Layout, Operands};
+use crate::unit_kind::UnitKind;
 use c6x_base::Side;
-use c6x_instr::{Access, Arith, First, Instr, MoveKind, Op, UnitKind};
 
 /// The word of an instruction, where it has one.
 pub fn word_of(instr: &Instr) -> Option<u32>

@@ -3,7 +3,7 @@ use Rattle.std.proofs.Common.{ℕ, ◌+◌, ◌<◌, List, ◌∙◌, arith}
 use Rattle.c6x_spec.specs.Memory.{Memory}
 use Rattle.c6x_base.specs.declared.side.Side.{Side}
 use Rattle.c6x_base.specs.declared.side.Side.TheVariants.{A, B}
-use Rattle.c6x_instr.specs.Registers.{place_of}
+use Rattle.c6x_encoding.specs.Registers.{place_of}
 use Rattle.c6x_machine.specs.History.{Effect}
 use Rattle.c6x_machine.specs.Origin.{Origin}
 use Rattle.c6x_exec.specs.Sound.{Stays}

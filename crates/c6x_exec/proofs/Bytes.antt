@@ -12,8 +12,8 @@ use Rattle.c6x_access.proofs.Bytes.{may_own}
 use Rattle.c6x_exec.specs.Fetched.{number_in}
 use Rattle.c6x_board.specs.Lane.{LieOn}
 use Rattle.c6x_machine.specs.History.{Effect, Stores, number_of, byte_at}
-use Rattle.c6x_instr.specs.declared.mem_op.MemOp.{MemOp}
-use Rattle.c6x_instr.specs.declared.job.Job.TheVariants.{Store}
+use Rattle.c6x_encoding.specs.declared.mem_op.MemOp.{MemOp}
+use Rattle.c6x_encoding.specs.declared.job.Job.TheVariants.{Store}
 use Rattle.c6x_access.specs.declared.right.Right.TheVariants.{Write}
 use Rattle.c6x_access.specs.Rights.{allowed}
 use Rattle.c6x_access.proofs.Bytes.{may_each}

@@ -3,8 +3,8 @@ use Rattle.std.proofs.Common.{◌≡◌, ℕ, ◌+◌, List, refl, sym, ◌∙�
 use Rattle.std.specs.List.{All}
 use Rattle.c6x_spec.specs.Memory.{Memory}
 use Rattle.c6x_access.specs.declared.area.Area.{Area}
-use Rattle.c6x_instr.specs.declared.effect.Effects.{Effects}
-use Rattle.c6x_instr.specs.Rows.{FitsEffects}
+use Rattle.c6x_encoding.specs.declared.effect.Effects.{Effects}
+use Rattle.c6x_encoding.specs.Rows.{FitsEffects}
 use Rattle.c6x_machine.specs.History.{Effect}
 use Rattle.c6x_machine.specs.Machine.{Goes, Stops, executed}
 use Rattle.c6x_machine.specs.Origin.{Origin}

@@ -2,9 +2,9 @@
 use Rattle.std.proofs.Common.{◌≡◌, ℕ, ◌+◌, ◌<◌, List, [], ◌∷◌, length, drop, get_or, refl, sym, ◌∙◌, ap, arith, add-one, drop-cons, Option, None, Some, Bool, nat_lt, is_some, ◌||◌, ◌&&◌}
 use Rattle.std.specs.List.{All}
 use Rattle.std.proofs.lemmas.List.Elements.{All-nil, All-cons}
-use Rattle.c6x_instr.specs.declared.effect.Effects.{Effects}
-use Rattle.c6x_instr.specs.declared.mem_op.MemOp.{MemOp}
-use Rattle.c6x_instr.specs.Rows.{FitsEffects}
+use Rattle.c6x_encoding.specs.declared.effect.Effects.{Effects}
+use Rattle.c6x_encoding.specs.declared.mem_op.MemOp.{MemOp}
+use Rattle.c6x_encoding.specs.Rows.{FitsEffects}
 use Rattle.c6x_access.specs.declared.area.Area.{Area}
 use Rattle.c6x_exec.specs.Fits.{IsClean}
 use Rattle.c6x_machine.specs.History.{Effect, write_at, target_at}

@@ -2,8 +2,8 @@
 use Rattle.std.proofs.Common.{◌≡◌, ◌≤◌, ℕ, List, [], ◌∷◌, length, suc, ap, refl, sym, subst, arith, take, replicate, Ok}
 use Rattle.std.specs.List.{All}
 use Rattle.std.proofs.lemmas.List.Elements.{All-replicate, All-nil}
-use Rattle.c6x_instr.specs.declared.instr.Instr.{Instr}
-use Rattle.c6x_instr.specs.Spelling.{IsValid}
+use Rattle.c6x_encoding.specs.declared.instr.Instr.{Instr}
+use Rattle.c6x_encoding.specs.Spelling.{IsValid}
 use Rattle.c6x_packet.specs.Packets.{AreSpelled, split_of, tested}
 use Rattle.c6x_exec.specs.declared.known.Known.{Known}
 use Rattle.c6x_exec.specs.Known.{IsKnown}

@@ -3,11 +3,11 @@ use Rattle.std.proofs.Common.{◌≡◌, ℕ, ◌+◌, ◌-◌, ◌≤◌, List,
 use Rattle.std.specs.Prelude.{IfSome}
 use Rattle.std.specs.List.{All}
 use Rattle.c6x_spec.specs.Memory.{Memory, IsOnMemory, byte_in}
-use Rattle.c6x_instr.specs.declared.effect.Effects.{Effects}
-use Rattle.c6x_instr.specs.declared.mem_op.MemOp.{MemOp}
-use Rattle.c6x_instr.specs.declared.job.Job.{Job}
-use Rattle.c6x_instr.specs.declared.job.Job.TheVariants.{Load, Store}
-use Rattle.c6x_instr.specs.Rows.{write_of_access, written_by_job, FitsAccess, FitsEffects}
+use Rattle.c6x_encoding.specs.declared.effect.Effects.{Effects}
+use Rattle.c6x_encoding.specs.declared.mem_op.MemOp.{MemOp}
+use Rattle.c6x_encoding.specs.declared.job.Job.{Job}
+use Rattle.c6x_encoding.specs.declared.job.Job.TheVariants.{Load, Store}
+use Rattle.c6x_encoding.specs.Rows.{write_of_access, written_by_job, FitsAccess, FitsEffects}
 use Rattle.c6x_access.specs.declared.area.Area.{Area}
 use Rattle.c6x_access.specs.declared.right.Right.{Right}
 use Rattle.c6x_access.specs.declared.right.Right.TheVariants.{Read, Write as MayWrite}

@@ -3,12 +3,12 @@ use Rattle.std.proofs.Common.{◌≡◌, ℕ, ◌<◌, List, [], ◌∷◌, ◌+
 use Rattle.std.specs.Prelude.{IfSome}
 use Rattle.std.specs.List.{All}
 use Rattle.std.proofs.lemmas.List.Elements.{All-nil, All-cons, All-append, All-head, All-tail}
-use Rattle.c6x_instr.specs.declared.effect.Effects.{Effects}
-use Rattle.c6x_instr.specs.declared.write.Write.{Write}
-use Rattle.c6x_instr.specs.declared.mem_op.MemOp.{MemOp}
-use Rattle.c6x_instr.specs.declared.job.Job.{Job}
-use Rattle.c6x_instr.specs.declared.job.Job.TheVariants.{Load, Store}
-use Rattle.c6x_instr.specs.Rows.{written_by_job, FitsWrite, FitsAccess, FitsJob, FitsEffects}
+use Rattle.c6x_encoding.specs.declared.effect.Effects.{Effects}
+use Rattle.c6x_encoding.specs.declared.write.Write.{Write}
+use Rattle.c6x_encoding.specs.declared.mem_op.MemOp.{MemOp}
+use Rattle.c6x_encoding.specs.declared.job.Job.{Job}
+use Rattle.c6x_encoding.specs.declared.job.Job.TheVariants.{Load, Store}
+use Rattle.c6x_encoding.specs.Rows.{written_by_job, FitsWrite, FitsAccess, FitsJob, FitsEffects}
 use Rattle.c6x_machine.specs.declared.destination.Destination.{Destination}
 use Rattle.c6x_exec.specs.Fits.{IsSoon}
 use Rattle.c6x_machine.specs.Packet.{destination_of, load_destination_of, destinations_of_row, destinations_in, two_writes_by}

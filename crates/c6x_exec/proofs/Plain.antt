@@ -3,9 +3,9 @@ use Rattle.std.proofs.Common.{◌≡◌, ℕ, ◌+◌, List, [], ◌∷◌, ◌+
 use Rattle.std.specs.List.{All}
 use Rattle.std.proofs.lemmas.List.Elements.{All-nil, All-cons}
 use Rattle.c6x_access.specs.declared.area.Area.{Area}
-use Rattle.c6x_instr.specs.declared.effect.Effects.{Effects}
-use Rattle.c6x_instr.specs.declared.write.Write.{Write}
-use Rattle.c6x_instr.specs.Rows.{FitsEffects}
+use Rattle.c6x_encoding.specs.declared.effect.Effects.{Effects}
+use Rattle.c6x_encoding.specs.declared.write.Write.{Write}
+use Rattle.c6x_encoding.specs.Rows.{FitsEffects}
 use Rattle.c6x_machine.specs.History.{Effect, Issues}
 use Rattle.c6x_machine.specs.Origin.{Origin}
 use Rattle.c6x_machine.specs.Packet.{destination_of, ends_if, fault_by, targets_in, two_writes_by, with_packet, with_target, with_write}

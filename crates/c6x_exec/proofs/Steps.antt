@@ -8,9 +8,9 @@ use Rattle.c6x_spec.specs.Memory.{Memory, byte_in}
 use Rattle.c6x_access.specs.declared.area.Area.{Area}
 use Rattle.c6x_access.specs.declared.right.Right.TheVariants.{Run}
 use Rattle.c6x_access.proofs.Bytes.{may_own}
-use Rattle.c6x_instr.specs.declared.instr.Instr.{Instr}
-use Rattle.c6x_instr.specs.declared.effect.Effects.{Effects}
-use Rattle.c6x_instr.specs.Spelling.{IsValid}
+use Rattle.c6x_encoding.specs.declared.instr.Instr.{Instr}
+use Rattle.c6x_encoding.specs.declared.effect.Effects.{Effects}
+use Rattle.c6x_encoding.specs.Spelling.{IsValid}
 use Rattle.c6x_exec.specs.Fetched.{number_in, words_in}
 use Rattle.c6x_machine.specs.History.{Effect, issue_at, target_at, output_of, register_at, registers_at, byte_at, number_of, number_at}
 use Rattle.c6x_machine.specs.Machine.{Outcome, Goes, Stops, executed, instructed, fetched, packet_of, with_put, put_of, issued, issued_if, outcome_of}

@@ -2,8 +2,8 @@
 use Rattle.std.specs.Prelude.{◌≡◌, ℕ, ◌<◌, ◌≤◌, List, length, Option, None, Some, false}
 use Rattle.std.specs.List.{All}
 use Rattle.c6x_spec.specs.Memory.{Memory, IsOnMemory, byte_in}
-use Rattle.c6x_instr.specs.declared.effect.Effects.{Effects}
-use Rattle.c6x_instr.specs.declared.mem_op.MemOp.{MemOp}
+use Rattle.c6x_encoding.specs.declared.effect.Effects.{Effects}
+use Rattle.c6x_encoding.specs.declared.mem_op.MemOp.{MemOp}
 use Rattle.c6x_access.specs.declared.area.Area.{Area}
 use Rattle.c6x_access.specs.declared.right.Right.TheVariants.{Write}
 use Rattle.c6x_access.specs.Rights.{allowed}

@@ -1,7 +1,7 @@
 -- Words whose packet is known.
 use Rattle.std.specs.Prelude.{◌≡◌, ◌≤◌, length, take, Ok}
 use Rattle.std.specs.List.{All}
-use Rattle.c6x_instr.specs.Spelling.{IsValid}
+use Rattle.c6x_encoding.specs.Spelling.{IsValid}
 use Rattle.c6x_packet.specs.Packets.{split_of}
 use Rattle.c6x_exec.specs.declared.known.Known.{Known}
 

@@ -1,5 +1,5 @@
 ghost use Rattle.std.specs.Prelude.{◌≡◌, ◌∷◌, ◌++◌, [], ℕ, ◌+◌, ◌*◌, ◌<◌, ◌≤◌, List, length, take, drop, All, IfSome, flat_map};
-ghost use Rattle.c6x_instr.specs.Rows.{FitsWrite, FitsAccess, FitsEffects};
+ghost use Rattle.c6x_encoding.specs.Rows.{FitsWrite, FitsAccess, FitsEffects};
 ghost use Rattle.c6x_machine.specs.Packet.{destination_of, load_destination_of, destinations_of_row, destinations_in, is_among, two_writes_by};
 ghost use Rattle.c6x_machine.specs.Origin.{most_cycles};
 ghost use Rattle.c6x_exec.specs.Pending.{is_due};

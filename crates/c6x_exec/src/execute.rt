@@ -1,6 +1,6 @@
 ghost use Rattle.std.specs.Prelude.{◌≡◌, ◌∷◌, [], ℕ, ◌≤◌, List, length, All, IfSome, None};
 ghost use Rattle.c6x_spec.specs.Memory.{Memory};
-ghost use Rattle.c6x_instr.specs.Rows.{FitsEffects, FitsWrite};
+ghost use Rattle.c6x_encoding.specs.Rows.{FitsEffects, FitsWrite};
 ghost use Rattle.c6x_board.specs.Lane.{LieOn};
 ghost use Rattle.c6x_exec.specs.Fits.{IsFramed};
 ghost use Rattle.c6x_machine.specs.History.{Effect};

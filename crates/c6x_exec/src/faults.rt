@@ -1,5 +1,5 @@
 ghost use Rattle.std.specs.Prelude.{◌≡◌, ℕ, ◌+◌, ◌<◌, ◌≤◌, List, length, drop, All, IfSome, nat_lt, None};
-ghost use Rattle.c6x_instr.specs.Rows.{FitsAccess, FitsEffects};
+ghost use Rattle.c6x_encoding.specs.Rows.{FitsAccess, FitsEffects};
 ghost use Rattle.c6x_machine.specs.Packet.{targets_in, bad_read_of, bad_write_of, misaligned_of, first_end, is_store, overlap, shares, two_stores, destinations_in, fault_by};
 ghost use Rattle.c6x_exec.specs.Pending.{is_due};
 ghost use Rattle.c6x_exec.specs.Sound.{IsSound};

@@ -1,5 +1,5 @@
 ghost use Rattle.std.specs.Prelude.{◌≡◌, ◌<◌, ◌≤◌, length, take, Ok, All, IfSome};
-ghost use Rattle.c6x_instr.specs.Spelling.{IsValid};
+ghost use Rattle.c6x_encoding.specs.Spelling.{IsValid};
 ghost use Rattle.c6x_packet.specs.Packets.{split_of};
 ghost use Rattle.c6x_exec.specs.Known.{IsKnown};
 

@@ -1,7 +1,7 @@
 ghost use Rattle.std.specs.Prelude.{◌≡◌, ◌⊎◌, ◌∷◌, ℕ, ◌+◌, ◌*◌, ◌^◌, ◌<◌, List, None, false};
 ghost use Rattle.c6x_spec.specs.Memory.{Memory, IsOnMemory};
 ghost use Rattle.c6x_access.specs.declared.area.Area.{Area};
-ghost use Rattle.c6x_instr.specs.Rows.{FitsAccess};
+ghost use Rattle.c6x_encoding.specs.Rows.{FitsAccess};
 ghost use Rattle.c6x_exec.specs.declared.context.Context.{Context};
 ghost use Rattle.c6x_exec.specs.Fetched.{number_in};
 ghost use Rattle.c6x_board.specs.Lane.{LieOn};
@@ -9,8 +9,8 @@ ghost use Rattle.c6x_exec.specs.Fits.{IsFramed, IsSized};
 ghost use Rattle.c6x_machine.specs.History.{Effect, Stores};
 ghost use Rattle.c6x_machine.specs.Origin.{Origin};
 ghost use Rattle.c6x_machine.specs.Packet.{low_bytes, bad_write_by};
-ghost use Rattle.c6x_instr.specs.declared.mem_op.MemOp.{MemOp};
-ghost use Rattle.c6x_instr.specs.declared.job.Job.TheVariants.{Store};
+ghost use Rattle.c6x_encoding.specs.declared.mem_op.MemOp.{MemOp};
+ghost use Rattle.c6x_encoding.specs.declared.job.Job.TheVariants.{Store};
 ghost use Rattle.c6x_exec.specs.Stands.{Tracks};
 ghost use Rattle.c6x_board.specs.Written.{IsWritten};
 

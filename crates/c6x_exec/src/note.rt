@@ -1,7 +1,7 @@
 ghost use Rattle.std.specs.Prelude.{◌≡◌, ℕ, ◌+◌, ◌<◌, ◌≤◌, List, length, take, fold, max, All, IfSome, false};
 ghost use Rattle.c6x_spec.specs.Memory.{IsOnMemory};
 ghost use Rattle.c6x_access.specs.declared.area.Area.{Area};
-ghost use Rattle.c6x_instr.specs.Rows.{write_of_access, FitsWrite, FitsAccess, FitsEffects};
+ghost use Rattle.c6x_encoding.specs.Rows.{write_of_access, FitsWrite, FitsAccess, FitsEffects};
 ghost use Rattle.c6x_exec.specs.declared.context.Context.{Context};
 ghost use Rattle.c6x_exec.specs.Fetched.{number_in};
 ghost use Rattle.c6x_board.specs.Lane.{LieOn};

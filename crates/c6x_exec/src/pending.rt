@@ -1,7 +1,7 @@
 ghost use Rattle.std.specs.Prelude.{◌≡◌, ℕ, ◌+◌, ◌%◌, ◌<◌, ◌≤◌, ◌∷◌, List, length, IfSome};
 ghost use Rattle.c6x_spec.specs.Memory.{Memory};
-ghost use Rattle.c6x_instr.specs.Registers.{place_of};
-ghost use Rattle.c6x_instr.specs.Rows.{FitsWrite};
+ghost use Rattle.c6x_encoding.specs.Registers.{place_of};
+ghost use Rattle.c6x_encoding.specs.Rows.{FitsWrite};
 ghost use Rattle.c6x_machine.specs.History.{Effect, Writes, Branches, Issues};
 ghost use Rattle.c6x_machine.specs.Origin.{Origin};
 ghost use Rattle.c6x_machine.specs.Packet.{with_write, with_target};

@@ -25,7 +25,7 @@ pub struct Process {
 impl Process {
     ghost use Rattle.std.specs.Prelude.{◌≡◌, ℕ, ◌+◌, ◌<◌, ◌≤◌, List, IfOk, None, Some, false};
     ghost use Rattle.c6x_spec.specs.Memory.{Memory};
-    ghost use Rattle.c6x_instr.specs.Registers.{place_of};
+    ghost use Rattle.c6x_encoding.specs.Registers.{place_of};
     ghost use Rattle.c6x_machine.specs.declared.end.End.{End};
     ghost use Rattle.c6x_exec.specs.Stands.{HoldsBytes};
     ghost use Rattle.c6x_board.specs.Lane.{LieOn};

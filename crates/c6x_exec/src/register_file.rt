@@ -1,6 +1,6 @@
 ghost use Rattle.std.specs.Prelude.{◌≡◌, ◌≢◌, ◌%◌, ◌/◌, None, ℕ, ◌+◌, ◌<◌, List, length, slice_index, slice_set, unwrap_or};
 ghost use Rattle.c6x_spec.specs.Memory.{Memory};
-ghost use Rattle.c6x_instr.specs.Registers.{place_of};
+ghost use Rattle.c6x_encoding.specs.Registers.{place_of};
 ghost use Rattle.c6x_machine.specs.History.{Effect};
 ghost use Rattle.c6x_machine.specs.Origin.{Origin};
 ghost use Rattle.c6x_exec.specs.Pending.{due, slot_of};

@@ -1,6 +1,6 @@
 ghost use Rattle.std.specs.Prelude.{◌≡◌, ◌≤◌, length, take, All};
-ghost use Rattle.c6x_instr.specs.Rows.{FitsEffects};
-ghost use Rattle.c6x_instr.specs.Spelling.{IsValid};
+ghost use Rattle.c6x_encoding.specs.Rows.{FitsEffects};
+ghost use Rattle.c6x_encoding.specs.Spelling.{IsValid};
 ghost use Rattle.c6x_machine.specs.Packet.{rows_of};
 
 use c6x_isa::{Effects, Instr, Regs, effects};
@@ -16,7 +16,7 @@ pub(crate) struct Rows {
 /// Seen as the list of its rows.
 impl Model for Rows {
     ghost use Rattle.std.specs.Prelude.{◌≡◌, ◌≤◌, List, length, take};
-    ghost use Rattle.c6x_instr.specs.declared.effect.Effects.{Effects};
+    ghost use Rattle.c6x_encoding.specs.declared.effect.Effects.{Effects};
 
     ghost Value = { List Effects };
 

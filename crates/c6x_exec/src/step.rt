@@ -1,6 +1,6 @@
 ghost use Rattle.std.specs.Prelude.{◌≡◌, ℕ, ◌+◌, ◌<◌, ◌≤◌, List, length, All, Ok, ◌∷◌, [], None, true, false};
 ghost use Rattle.c6x_spec.specs.Memory.{Memory};
-ghost use Rattle.c6x_instr.specs.Spelling.{IsValid};
+ghost use Rattle.c6x_encoding.specs.Spelling.{IsValid};
 ghost use Rattle.c6x_packet.specs.Packets.{IsChain, split_of};
 ghost use Rattle.c6x_board.specs.Lane.{LieOn};
 ghost use Rattle.c6x_exec.specs.Fits.{IsFramed};

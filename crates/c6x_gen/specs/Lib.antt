@@ -4,3 +4,12 @@ pub mod Links
 pub mod Plans
 pub mod Generated
 pub mod Limits
+pub mod Assembles
+pub mod Objects
+pub mod Words
+pub mod LinkedPlans
+pub mod Readable
+pub mod LinkedSources
+pub mod Parts
+pub mod Modules
+pub mod BoundModules

@@ -9,10 +9,10 @@ use Rattle.c6x_elf.specs.Lists.{symbols_of}
 use Rattle.c6x_elf.specs.Types.{Symbol}
 use Rattle.c6x_elf.specs.declared.file.File.{File}
 use Rattle.c6x_elf.specs.declared.section.Section.{Section}
-use Rattle.c6x_linked.specs.declared.limits.TheConstants.{MOST_ALIGN}
-use Rattle.c6x_objects.specs.Parts.{file_parts, part_at, part_of, parts_of}
-use Rattle.c6x_objects.specs.Sections.{is_allocated}
-use Rattle.c6x_objects.specs.declared.part.Part.{Part}
+use Rattle.c6x_layout.specs.declared.file_limits.TheConstants.{MOST_ALIGN}
+use Rattle.c6x_symbols.specs.Parts.{file_parts, part_at, part_of, parts_of}
+use Rattle.c6x_symbols.specs.Sections.{is_allocated}
+use Rattle.c6x_symbols.specs.declared.part.Part.{Part}
 use Rattle.c6x_symbols.specs.Rules.{Refusal, ◌<|>◌, first_along, must, refusal}
 use Rattle.c6x_symbols.specs.declared.link_rule.LinkRule.TheVariants.{Alignment}
 use Rattle.c6x_layout.specs.Alignments.{align_refusal, alignments_refusal, common_align_refusal, is_alignment, is_shared_common, object_align_refusal, section_align_refusal}

@@ -4,7 +4,7 @@ use Rattle.std.proofs.lemmas.List.{drop_all, drop_more}
 use Rattle.std.proofs.lemmas.List.FromFn.{get_or-enumerate_from, length-enumerate_from}
 use Rattle.std.specs.List.{enumerate_from, filter}
 use Rattle.c6x_elf.specs.declared.file.File.{File}
-use Rattle.c6x_objects.specs.declared.part.Part.{Part}
+use Rattle.c6x_symbols.specs.declared.part.Part.{Part}
 use Rattle.c6x_symbols.specs.Bindings.{BoundName, binding_in, no_name}
 use Rattle.c6x_symbols.specs.Rules.{Refusal, ◌<|>◌, first_along}
 use Rattle.c6x_layout.specs.Alignments.{object_align_refusal}

@@ -2,8 +2,8 @@
 use Rattle.std.proofs.Common.{◌≡◌, ℕ, ◌+◌, ◌*◌, ◌-◌, ◌==◌, ◌≤◌, ◌<◌, ◌^◌, Bool, true, false, length, Option, None, nat_le, refl, arith, if◌then◌else◌}
 use Rattle.std.proofs.lemmas.Bool.Decides.{nat_tests}
 use Rattle.c6x_spec.specs.Rounded.{rounded}
-use Rattle.c6x_linked.specs.Places.{text_size}
-use Rattle.c6x_linked.specs.declared.limits.TheConstants.{MOST_SEGMENT_BYTES}
+use Rattle.c6x_layout.specs.FilePlaces.{text_size}
+use Rattle.c6x_layout.specs.declared.file_limits.TheConstants.{MOST_SEGMENT_BYTES}
 use Rattle.c6x_symbols.specs.Rules.{Refusal, ◌<|>◌, must, refusal}
 use Rattle.c6x_symbols.specs.declared.link_rule.LinkRule.TheVariants.{Large}
 use Rattle.c6x_layout.proofs.Sized.{AreBelow, below_limit, ordered}

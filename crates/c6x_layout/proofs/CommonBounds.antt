@@ -8,8 +8,8 @@ use Rattle.c6x_elf.specs.Lists.{symbols_of}
 use Rattle.c6x_elf.specs.Names.{name_of}
 use Rattle.c6x_elf.specs.Types.{Symbol, SymbolBinding}
 use Rattle.c6x_elf.specs.declared.file.File.{File}
-use Rattle.c6x_linked.specs.declared.limits.TheConstants.{MOST_ALIGN}
-use Rattle.c6x_objects.specs.Parts.{parts_of}
+use Rattle.c6x_layout.specs.declared.file_limits.TheConstants.{MOST_ALIGN}
+use Rattle.c6x_symbols.specs.Parts.{parts_of}
 use Rattle.c6x_symbols.specs.Binding.{binding_of, bound_to}
 use Rattle.c6x_symbols.specs.Bindings.{bindings_of, bound_name}
 use Rattle.c6x_symbols.specs.Groups.{class_is_common, common_of, common_with, first_where, greatest_size, greatest_value, group_of, has_name, has_size, is_common, mention_in, names_of, of_name}

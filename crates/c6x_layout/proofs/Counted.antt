@@ -3,7 +3,7 @@ use Rattle.std.proofs.Common.{◌≡◌, ℕ, ◌+◌, ◌<◌, ◌≤◌, Bool,
 use Rattle.std.proofs.lemmas.List.{take_all}
 use Rattle.std.proofs.lemmas.List.Filters.{length-filter_more}
 use Rattle.std.specs.List.{enumerate_from, filter, flat_map}
-use Rattle.c6x_objects.proofs.Numbered.{numbered_alone}
+use Rattle.c6x_symbols.proofs.Numbered.{numbered_alone}
 
 pub count_more : {A : Type 0} (test : A → Bool) (xs : List A) (i : ℕ) (d : A) (count one : ℕ) → i < length xs → one ≡ (if test (get_or xs i d) then 1 else 0) → count ≡ length (filter test (take i xs)) → count + one ≡ length (filter test (take (i + 1) xs))
 count_more test xs i d count one below is was = omega (arith, length-filter_more test xs i d below, is, was)

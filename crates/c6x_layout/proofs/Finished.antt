@@ -1,8 +1,8 @@
 -- What is known of the numbers of a layout, for whatever numbers are equal to them.
 use Rattle.std.proofs.Common.{◌≡◌, ℕ, ◌-◌, ◌≤◌, List, length, sym, ap, ◌∙◌, subst}
-use Rattle.c6x_linked.specs.declared.limits.TheConstants.{MOST_SEGMENT_BYTES}
-use Rattle.c6x_objects.specs.Parts.{parts_of}
-use Rattle.c6x_objects.specs.declared.part.Part.{Part}
+use Rattle.c6x_layout.specs.declared.file_limits.TheConstants.{MOST_SEGMENT_BYTES}
+use Rattle.c6x_symbols.specs.Parts.{parts_of}
+use Rattle.c6x_symbols.specs.declared.part.Part.{Part}
 use Rattle.c6x_layout.proofs.Sized.{chained, data_behind, layout_is, refusal_is, sizes_addresses}
 use Rattle.c6x_layout.specs.Layouts.{Laying, layout_of, size_refusal}
 use Rattle.c6x_layout.specs.Sizes.{AreAddresses, AreChained, layout_by, sizes_of, sizes_refusal}

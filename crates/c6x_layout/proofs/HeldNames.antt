@@ -10,7 +10,7 @@ use Rattle.c6x_elf.specs.Lists.{symbols_of, symtab_of}
 use Rattle.c6x_elf.specs.Names.{name_of}
 use Rattle.c6x_elf.specs.Types.{Symbol, SymbolBinding}
 use Rattle.c6x_elf.specs.declared.file.File.{File}
-use Rattle.c6x_objects.specs.Objects.{IsObject}
+use Rattle.c6x_symbols.specs.Objects.{IsObject}
 use Rattle.c6x_symbols.proofs.Counts.{text_small}
 use Rattle.c6x_symbols.specs.Bindings.{bindings_of, bound_name}
 use Rattle.c6x_symbols.specs.Groups.{is_other, names_of}

@@ -3,7 +3,7 @@ use Rattle.std.proofs.Common.{◌≡◌, ℕ, ◌+◌, ◌<◌, ◌≤◌, max, 
 use Rattle.std.proofs.lemmas.List.{append-nil, drop_all, drop_more}
 use Rattle.std.specs.List.{filter}
 use Rattle.c6x_spec.proofs.RoundedUp.{rounded_is_least}
-use Rattle.c6x_objects.specs.declared.part.Part.{Part}
+use Rattle.c6x_symbols.specs.declared.part.Part.{Part}
 use Rattle.c6x_layout.specs.Groups.{end_with, place_with}
 use Rattle.c6x_layout.specs.Places.{place_of, places_end, places_from, start_of}
 use Rattle.c6x_layout.specs.declared.place.Place.{Place}

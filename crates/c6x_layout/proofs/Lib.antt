@@ -1,3 +1,9 @@
+pub mod Backward
+pub mod NameRows
+pub mod FileRows
+pub mod NameEnds
+pub mod Fitting
+pub mod Tidy
 pub mod AlignBounds
 pub mod Aligned
 pub mod Bounds
@@ -13,3 +19,4 @@ pub mod SharedCounts
 pub mod Sized
 pub mod SizesMade
 pub mod Spread
+pub mod PartsApart

@@ -7,8 +7,8 @@ use Rattle.c6x_elf.specs.SectionClasses.{Absolute as AbsoluteClass, Common as Co
 use Rattle.c6x_elf.specs.Types.{SectionClass, Symbol}
 use Rattle.c6x_elf.specs.declared.file.File.{File}
 use Rattle.c6x_elf.specs.declared.section.Section.{Section}
-use Rattle.c6x_objects.specs.declared.region.Region.{Region}
-use Rattle.c6x_objects.specs.declared.region.Region.TheVariants.{Absolute, Import}
+use Rattle.c6x_symbols.specs.declared.region.Region.{Region}
+use Rattle.c6x_symbols.specs.declared.region.Region.TheVariants.{Absolute, Import}
 use Rattle.c6x_symbols.specs.Binding.{binding_of, is_table}
 use Rattle.c6x_symbols.specs.Bindings.{BoundName, binding_in, no_name}
 use Rattle.c6x_symbols.specs.Groups.{no_group}

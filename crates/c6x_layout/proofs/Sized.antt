@@ -1,10 +1,10 @@
 -- The numbers of a layout in order, and that they are the layout.
 use Rattle.std.proofs.Common.{◌≡◌, ℕ, ◌+◌, ◌*◌, ◌-◌, ◌==◌, ◌≤◌, ◌<◌, ◌^◌, Bool, true, false, length, refl, arith, if◌then◌else◌}
 use Rattle.c6x_spec.specs.Rounded.{rounded}
-use Rattle.c6x_linked.specs.Places.{dynamic_at, entry_count, hash_at, jumps_at, places_of, relas_at, strings_at, symbols_at, text_size}
-use Rattle.c6x_linked.specs.declared.counts.Counts.{Counts}
-use Rattle.c6x_linked.specs.declared.limits.TheConstants.{MOST_SEGMENT_BYTES, TEXT_START}
-use Rattle.c6x_objects.specs.Parts.{parts_of}
+use Rattle.c6x_layout.specs.FilePlaces.{dynamic_at, entry_count, hash_at, jumps_at, places_of, relas_at, strings_at, symbols_at, text_size}
+use Rattle.c6x_layout.specs.declared.counts.Counts.{Counts}
+use Rattle.c6x_layout.specs.declared.file_limits.TheConstants.{MOST_SEGMENT_BYTES, TEXT_START}
+use Rattle.c6x_symbols.specs.Parts.{parts_of}
 use Rattle.c6x_layout.proofs.CommonsLaid.{commons_above}
 use Rattle.c6x_layout.proofs.Laid.{end_above}
 use Rattle.c6x_layout.specs.Codes.{AreSmall, code_of}

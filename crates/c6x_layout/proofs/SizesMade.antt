@@ -1,12 +1,12 @@
 -- The numbers that are worked out step by step are those of the layout.
 use Rattle.std.proofs.Common.{◌≡◌, ℕ, ◌+◌, ◌*◌, List, length, ap, ◌∙◌}
 use Rattle.c6x_spec.specs.Rounded.{rounded}
-use Rattle.c6x_linked.specs.Places.{places_of, text_size}
-use Rattle.c6x_linked.specs.declared.counts.Counts.{Counts}
-use Rattle.c6x_linked.specs.declared.limits.TheConstants.{TEXT_START}
-use Rattle.c6x_linked.specs.declared.places.Places.{Places}
-use Rattle.c6x_objects.specs.Parts.{parts_of}
-use Rattle.c6x_objects.specs.declared.part.Part.{Part}
+use Rattle.c6x_layout.specs.FilePlaces.{places_of, text_size}
+use Rattle.c6x_layout.specs.declared.counts.Counts.{Counts}
+use Rattle.c6x_layout.specs.declared.file_limits.TheConstants.{TEXT_START}
+use Rattle.c6x_layout.specs.declared.places.Places.{Places}
+use Rattle.c6x_symbols.specs.Parts.{parts_of}
+use Rattle.c6x_symbols.specs.declared.part.Part.{Part}
 use Rattle.c6x_layout.proofs.Sized.{code_of_is, ends_of_is}
 use Rattle.c6x_layout.specs.Codes.{code_of}
 use Rattle.c6x_layout.specs.Groups.{ends_of}

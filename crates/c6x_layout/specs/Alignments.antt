@@ -9,11 +9,11 @@ use Rattle.c6x_elf.specs.declared.section.Section.{Section}
 use Rattle.c6x_elf.specs.Types.{Symbol}
 use Rattle.c6x_elf.specs.Bindings.{Local, Global, Weak}
 use Rattle.c6x_elf.specs.Types.{SymbolBinding}
-use Rattle.c6x_objects.specs.Sections.{is_allocated}
+use Rattle.c6x_symbols.specs.Sections.{is_allocated}
 use Rattle.c6x_symbols.specs.Groups.{class_is_common}
 use Rattle.c6x_symbols.specs.Rules.{Refusal, ◌<|>◌, first_along, must, refusal}
 use Rattle.c6x_symbols.specs.declared.link_rule.LinkRule.TheVariants.{Alignment}
-use Rattle.c6x_linked.specs.declared.limits.TheConstants.{MOST_ALIGN}
+use Rattle.c6x_layout.specs.declared.file_limits.TheConstants.{MOST_ALIGN}
 
 -- 0, or a power of two up to the greatest.
 unfoldable pub is_alignment : ℕ → Bool

@@ -1,9 +1,9 @@
 -- The ends of the code of a text, and counts that sums of 64 bits can hold.
 use Rattle.std.specs.Prelude.{ℕ, ◌+◌, ◌*◌, ◌^◌, ◌==◌, ◌≤◌, List, filter, if◌then◌else◌}
 use Rattle.c6x_spec.specs.Rounded.{rounded}
-use Rattle.c6x_linked.specs.declared.counts.Counts.{Counts}
-use Rattle.c6x_linked.specs.declared.limits.TheConstants.{TEXT_START}
-use Rattle.c6x_objects.specs.declared.part.Part.{Part}
+use Rattle.c6x_layout.specs.declared.counts.Counts.{Counts}
+use Rattle.c6x_layout.specs.declared.file_limits.TheConstants.{TEXT_START}
+use Rattle.c6x_symbols.specs.declared.part.Part.{Part}
 use Rattle.c6x_layout.specs.Places.{in_text, places_end}
 use Rattle.c6x_layout.specs.declared.code.Code.{Code}
 use Rattle.c6x_layout.specs.declared.limits.TheConstants.{STUB_ALIGN, STUB_BYTES}

@@ -5,8 +5,8 @@ use Rattle.c6x_dsbt.specs.Wanted.{wanted_at, wanted_of}
 use Rattle.c6x_dsbt.specs.declared.wanted.Wanted.{Wanted}
 use Rattle.c6x_elf.specs.Names.{name_table}
 use Rattle.c6x_elf.specs.declared.file.File.{File}
-use Rattle.c6x_objects.specs.Entries.{file_entries}
-use Rattle.c6x_objects.specs.declared.object_entry.ObjectEntry.{ObjectEntry}
+use Rattle.c6x_symbols.specs.Entries.{file_entries}
+use Rattle.c6x_symbols.specs.declared.object_entry.ObjectEntry.{ObjectEntry}
 use Rattle.c6x_plan.specs.declared.link_plan.LinkPlan.{LinkPlan}
 use Rattle.c6x_reloc.specs.Table.{row_of}
 use Rattle.c6x_reloc.specs.declared.reloc_kind.RelocKind.TheVariants.{ABS32}

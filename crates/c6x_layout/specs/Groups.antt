@@ -1,6 +1,6 @@
 -- The groups of sections, and one step of laying.
 use Rattle.std.specs.Prelude.{ℕ, ◌+◌, Bool, true, false, List, [], ◌∷◌, filter, max, if◌then◌else◌}
-use Rattle.c6x_objects.specs.declared.part.Part.{Part}
+use Rattle.c6x_symbols.specs.declared.part.Part.{Part}
 use Rattle.c6x_symbols.specs.Bindings.{BoundName}
 use Rattle.c6x_layout.specs.Layouts.{in_data}
 use Rattle.c6x_layout.specs.Places.{commons_end, in_far_bytes, in_far_zeros, in_near_bytes, in_near_zeros, in_text, place_of, places_end, start_of}

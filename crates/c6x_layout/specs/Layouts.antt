@@ -3,11 +3,11 @@ use Rattle.std.specs.Prelude.{ℕ, ◌+◌, ◌-◌, ◌*◌, ◌==◌, max, min
 use Rattle.c6x_spec.specs.Rounded.{rounded}
 use Rattle.c6x_dsbt.specs.declared.wanted.Wanted.{Wanted}
 use Rattle.c6x_elf.specs.declared.file.File.{File}
-use Rattle.c6x_linked.specs.Places.{dynamic_at, text_size}
-use Rattle.c6x_linked.specs.declared.counts.Counts.{Counts}
-use Rattle.c6x_linked.specs.declared.limits.TheConstants.{MOST_SEGMENT_BYTES, TEXT_START}
-use Rattle.c6x_objects.specs.Parts.{parts_of}
-use Rattle.c6x_objects.specs.declared.part.Part.{Part}
+use Rattle.c6x_layout.specs.FilePlaces.{dynamic_at, text_size}
+use Rattle.c6x_layout.specs.declared.counts.Counts.{Counts}
+use Rattle.c6x_layout.specs.declared.file_limits.TheConstants.{MOST_SEGMENT_BYTES, TEXT_START}
+use Rattle.c6x_symbols.specs.Parts.{parts_of}
+use Rattle.c6x_symbols.specs.declared.part.Part.{Part}
 use Rattle.c6x_plan.specs.declared.link_plan.LinkPlan.{LinkPlan}
 use Rattle.c6x_symbols.specs.Bindings.{BoundName}
 use Rattle.c6x_symbols.specs.Rules.{Refusal, ◌<|>◌, must, refusal}

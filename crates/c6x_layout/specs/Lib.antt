@@ -1,3 +1,9 @@
+pub mod File
+pub mod Hash
+pub mod FilePlaces
+pub mod FileSizes
+pub mod Tables
+pub mod Text
 pub mod Alignments
 pub mod Codes
 pub mod Dynamics
@@ -9,3 +15,4 @@ pub mod Regions
 pub mod Shared
 pub mod Sizes
 pub use Rattle.c6x_layout.specs.declared.limits.TheConstants as Limits
+pub mod Apart

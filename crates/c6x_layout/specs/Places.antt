@@ -1,9 +1,9 @@
 -- Where parts lie: each begins at the least multiple of its alignment that is not below the end of the part in front of it.
 use Rattle.std.specs.Prelude.{ℕ, ◌+◌, ◌≤◌, ◌&&◌, max, not, Bool, true, false, List, [], ◌∷◌, Option, None, Some}
 use Rattle.c6x_spec.specs.Rounded.{rounded}
-use Rattle.c6x_objects.specs.declared.part.Part.{Part}
-use Rattle.c6x_objects.specs.declared.zone.Zone.{Zone}
-use Rattle.c6x_objects.specs.declared.zone.Zone.TheVariants.{Far, Near, Text}
+use Rattle.c6x_symbols.specs.declared.part.Part.{Part}
+use Rattle.c6x_symbols.specs.declared.zone.Zone.{Zone}
+use Rattle.c6x_symbols.specs.declared.zone.Zone.TheVariants.{Far, Near, Text}
 use Rattle.c6x_symbols.specs.Bindings.{BoundName, binding_in}
 use Rattle.c6x_symbols.specs.declared.binding.Binding.{Binding}
 use Rattle.c6x_symbols.specs.declared.binding.Binding.TheVariants.{Common, Import, Strong, Table, Weak}

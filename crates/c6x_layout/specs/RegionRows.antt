@@ -6,8 +6,8 @@ use Rattle.c6x_elf.specs.SectionClasses.{Absolute as AbsoluteClass, Common as Co
 use Rattle.c6x_elf.specs.Types.{SectionClass, Symbol}
 use Rattle.c6x_elf.specs.declared.file.File.{File}
 use Rattle.c6x_elf.specs.declared.section.Section.{Section}
-use Rattle.c6x_objects.specs.declared.region.Region.{Region}
-use Rattle.c6x_objects.specs.declared.region.Region.TheVariants.{Absolute}
+use Rattle.c6x_symbols.specs.declared.region.Region.{Region}
+use Rattle.c6x_symbols.specs.declared.region.Region.TheVariants.{Absolute}
 use Rattle.c6x_layout.specs.Regions.{region_of_section}
 use Rattle.c6x_layout.specs.declared.regions.Regions.{Regions}
 

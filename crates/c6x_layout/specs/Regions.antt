@@ -8,11 +8,11 @@ use Rattle.c6x_elf.specs.SectionClasses.{Absolute as AbsoluteClass, Common as Co
 use Rattle.c6x_elf.specs.declared.file.File.{File}
 use Rattle.c6x_elf.specs.declared.section.Section.{Section}
 use Rattle.c6x_elf.specs.Types.{SectionClass, Symbol}
-use Rattle.c6x_objects.specs.Sections.{is_allocated, zone_of}
-use Rattle.c6x_objects.specs.declared.region.Region.{Region}
-use Rattle.c6x_objects.specs.declared.region.Region.TheVariants.{Absolute, Data, Import as Elsewhere, Text}
-use Rattle.c6x_objects.specs.declared.zone.Zone.{Zone}
-use Rattle.c6x_objects.specs.declared.zone.Zone.TheVariants.{Far, Near, Text as TextZone}
+use Rattle.c6x_symbols.specs.Sections.{is_allocated, zone_of}
+use Rattle.c6x_symbols.specs.declared.region.Region.{Region}
+use Rattle.c6x_symbols.specs.declared.region.Region.TheVariants.{Absolute, Data, Import as Elsewhere, Text}
+use Rattle.c6x_symbols.specs.declared.zone.Zone.{Zone}
+use Rattle.c6x_symbols.specs.declared.zone.Zone.TheVariants.{Far, Near, Text as TextZone}
 use Rattle.c6x_symbols.specs.Bindings.{BoundName, binding_in, bound_at}
 use Rattle.c6x_symbols.specs.declared.binding.Binding.{Binding}
 use Rattle.c6x_symbols.specs.declared.binding.Binding.TheVariants.{Common, Import, Strong, Table, Weak}

@@ -1,8 +1,8 @@
 -- The numbers of a layout together.
 use Rattle.std.specs.Prelude.{◌≡◌, ℕ, ◌+◌, ◌-◌, ◌^◌, ◌<◌, ◌==◌, true, false, List, ◌++◌, Option, None, filter, nat_le, if◌then◌else◌}
-use Rattle.c6x_linked.specs.Places.{places_of}
-use Rattle.c6x_linked.specs.declared.limits.TheConstants.{MOST_SEGMENT_BYTES, TEXT_START}
-use Rattle.c6x_objects.specs.declared.part.Part.{Part}
+use Rattle.c6x_layout.specs.FilePlaces.{places_of}
+use Rattle.c6x_layout.specs.declared.file_limits.TheConstants.{MOST_SEGMENT_BYTES, TEXT_START}
+use Rattle.c6x_symbols.specs.declared.part.Part.{Part}
 use Rattle.c6x_symbols.specs.Bindings.{BoundName}
 use Rattle.c6x_symbols.specs.Rules.{Refusal, ◌<|>◌, must, refusal}
 use Rattle.c6x_symbols.specs.declared.link_rule.LinkRule.TheVariants.{Large}

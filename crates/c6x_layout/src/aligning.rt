@@ -1,5 +1,5 @@
 ghost use Rattle.std.specs.Prelude.{◌≡◌, ◌≤◌, false, true, length, filter, max};
-ghost use Rattle.c6x_objects.specs.Sections.{is_allocated};
+ghost use Rattle.c6x_symbols.specs.Sections.{is_allocated};
 ghost use Rattle.c6x_plan.specs.declared.limits.TheConstants.{MOST_OBJECTS};
 ghost use Rattle.c6x_symbols.specs.Rules.{Passes, first_along};
 ghost use Rattle.c6x_layout.specs.Alignments.{align_refusal, alignments_refusal, common_align_refusal, is_alignment, is_shared_common, object_align_refusal, section_align_refusal};
@@ -7,11 +7,10 @@ ghost use Rattle.c6x_layout.specs.Groups.{align_with, in_group};
 ghost use Rattle.c6x_layout.specs.Layouts.{align_or, greatest_align, greatest_common};
 ghost use Rattle.c6x_layout.specs.Places.{room_of};
 
+use crate::file_limits::MOST_ALIGN;
 use crate::group::{Group, is_in};
 use c6x_elf::{File, Section, SectionClass, Symbol, SymbolBinding, symbols};
-use c6x_linked::limits::MOST_ALIGN;
-use c6x_objects::{Part, is_allocated};
-use c6x_symbols::{Binding, Bindings, LinkError, LinkRule, check};
+use c6x_symbols::{Binding, Bindings, LinkError, LinkRule, Part, check, is_allocated};
 use std::alloc::Global;
 
 /// Checks the alignments of each object's sections with memory and then of its commons (K3).

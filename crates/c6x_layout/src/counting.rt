@@ -1,7 +1,7 @@
 ghost use Rattle.std.specs.Prelude.{◌≡◌, ◌+◌, ◌*◌, ◌^◌, ◌<◌, ◌≤◌, false, All, Bool, IfOk, List, filter, length, map, if◌then◌else◌, slice_index_or};
 ghost use Rattle.std.specs.List.{enumerate_from, flat_map};
 ghost use Rattle.c6x_elf.specs.declared.file.File.{File as FileOf};
-ghost use Rattle.c6x_objects.specs.Objects.{IsObject};
+ghost use Rattle.c6x_symbols.specs.Objects.{IsObject};
 ghost use Rattle.c6x_plan.specs.declared.limits.TheConstants.{MOST_OBJECTS};
 ghost use Rattle.c6x_dsbt.specs.Wanted.{wanted_at};
 ghost use Rattle.c6x_dsbt.specs.declared.wanted.Wanted.TheVariants.{Bound};
@@ -12,9 +12,8 @@ ghost use Rattle.c6x_layout.specs.Regions.{is_data, moves};
 use crate::regions::Regions;
 use c6x_dsbt::{Wanted, Words, wanted_at, wanted_symbols};
 use c6x_elf::File;
-use c6x_objects::{ObjectEntry, Region, file_entries};
 use c6x_reloc::{RelocKind, number_of};
-use c6x_symbols::Bindings;
+use c6x_symbols::{Bindings, ObjectEntry, Region, file_entries};
 use std::alloc::{AllocError, Global};
 
 /// How many of the value words the loader fills.
@@ -70,7 +69,7 @@ pub fn filled_fields(
 }
 
 /// How many fields of an object the loader fills.
-#[tactic(auto, unfolding(crate::specs::Dynamics::file_filled), using(c6x_objects::proofs::Few::file_entries_few))]
+#[tactic(auto, unfolding(crate::specs::Dynamics::file_filled), using(c6x_symbols::proofs::Few::file_entries_few))]
 fn filled_in(
     alloc: Global,
     regions: &Regions,

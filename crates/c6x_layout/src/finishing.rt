@@ -3,15 +3,14 @@ ghost use Rattle.c6x_layout.specs.Sizes.{AreAddresses, AreChained, layout_by};
 
 use crate::aligning::{greatest_align, greatest_common};
 use crate::commons::common_addresses;
+use crate::file_limits::TEXT_START;
 use crate::group::Group;
 use crate::layout::Layout;
 use crate::limits::{DATA_ALIGN, TEXT_ALIGN};
 use crate::sizes::Sizes;
 use crate::spreading::places;
 use c6x_base::Row;
-use c6x_linked::limits::TEXT_START;
-use c6x_objects::Part;
-use c6x_symbols::Bindings;
+use c6x_symbols::{Bindings, Part};
 use std::alloc::{AllocError, Global};
 
 /// The layout of these numbers, which are addresses.

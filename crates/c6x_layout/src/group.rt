@@ -1,7 +1,7 @@
 ghost use Rattle.std.specs.Prelude.{◌≡◌};
 ghost use Rattle.c6x_layout.specs.Groups.{in_group};
 
-use c6x_objects::{Part, Zone};
+use c6x_symbols::{Part, Zone};
 
 /// A group of sections that are laid one behind the other.
 #[derive(Clone, Copy, Debug)]

@@ -1,8 +1,8 @@
 ghost use Rattle.std.specs.Prelude.{◌≡◌, ◌+◌, ◌-◌, ◌*◌, ◌^◌, ◌<◌, ◌≤◌, false, All, IfOk, OnOk, filter, length};
-ghost use Rattle.c6x_linked.specs.Places.{text_size};
-ghost use Rattle.c6x_linked.specs.declared.limits.TheConstants.{MOST_SEGMENT_BYTES, TEXT_START};
-ghost use Rattle.c6x_objects.specs.Objects.{IsObject};
-ghost use Rattle.c6x_objects.specs.Parts.{parts_of};
+ghost use Rattle.c6x_layout.specs.FilePlaces.{text_size};
+ghost use Rattle.c6x_layout.specs.declared.file_limits.TheConstants.{MOST_SEGMENT_BYTES, TEXT_START};
+ghost use Rattle.c6x_symbols.specs.Objects.{IsObject};
+ghost use Rattle.c6x_symbols.specs.Parts.{parts_of};
 ghost use Rattle.c6x_plan.specs.Limits.{IsLinkPlan};
 ghost use Rattle.c6x_plan.specs.declared.limits.TheConstants.{MOST_OBJECTS};
 ghost use Rattle.c6x_symbols.specs.Rules.{Passes};
@@ -15,6 +15,8 @@ ghost use Rattle.c6x_layout.specs.Shared.{IsHeldName};
 
 use crate::code::Code;
 use crate::counting::{filled_fields, filled_words};
+use crate::counts::Counts;
+use crate::file_limits::TEXT_START;
 use crate::group::Group;
 use crate::limits::{STUB_ALIGN, STUB_BYTES};
 use crate::placing::group_end;
@@ -23,11 +25,8 @@ use crate::strings::{module_bytes, shared_names};
 use c6x_base::least_multiple;
 use c6x_dsbt::Tables;
 use c6x_elf::File;
-use c6x_linked::Counts;
-use c6x_linked::limits::TEXT_START;
-use c6x_objects::Part;
 use c6x_plan::LinkPlan;
-use c6x_symbols::Bindings;
+use c6x_symbols::{Bindings, Part};
 use std::alloc::{AllocError, Global};
 
 /// The ends of a text with so many stubs.

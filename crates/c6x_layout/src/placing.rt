@@ -5,7 +5,7 @@ ghost use Rattle.c6x_layout.specs.Places.{places_end, places_from, start_of};
 use crate::group::{Group, is_in};
 use crate::place::Place;
 use c6x_base::least_multiple;
-use c6x_objects::Part;
+use c6x_symbols::Part;
 use std::alloc::AllocError;
 
 /// The least multiple of an alignment that is not below a place; an alignment of 0 asks for none.

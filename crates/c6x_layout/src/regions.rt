@@ -1,5 +1,5 @@
 ghost use Rattle.std.specs.Prelude.{◌≡◌, [], false, List, IfOk, map, slice_index_or};
-ghost use Rattle.c6x_objects.specs.declared.region.Region.TheVariants.{Absolute};
+ghost use Rattle.c6x_symbols.specs.declared.region.Region.TheVariants.{Absolute};
 ghost use Rattle.c6x_elf.specs.declared.file.File.{File as FileOf};
 ghost use Rattle.c6x_layout.specs.RegionRows.{AreRegions, class_in, own_region, section_row, symbol_in_row, symbol_row};
 ghost use Rattle.c6x_layout.specs.Regions.{binding_region, bound_region, section_region, symbol_region, wanted_region, zone_region};
@@ -7,8 +7,7 @@ ghost use Rattle.c6x_layout.specs.Regions.{binding_region, bound_region, section
 use c6x_base::Row;
 use c6x_dsbt::Wanted;
 use c6x_elf::{File, Section, SectionClass, Symbol, symbols};
-use c6x_objects::{Region, Zone, is_allocated, zone_of};
-use c6x_symbols::{Binding, Bindings};
+use c6x_symbols::{Binding, Bindings, Region, Zone, is_allocated, zone_of};
 use std::alloc::{AllocError, Global};
 
 /// Where the sections and the definitions of all objects lie, each object's in a row.

@@ -1,6 +1,6 @@
 use crate::code::Code;
 use crate::ends::Ends;
-use c6x_linked::Places;
+use crate::places::Places;
 
 /// The numbers of a layout before they are known to be addresses.
 #[derive(Clone, Copy, Debug)]

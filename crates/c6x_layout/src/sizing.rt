@@ -1,6 +1,6 @@
 ghost use Rattle.std.specs.Prelude.{◌≡◌, ◌+◌, ◌-◌, ◌*◌, ◌^◌, ◌≤◌, ◌==◌, None, OnOk, IfOk, length, nat_le, if◌then◌else◌};
-ghost use Rattle.c6x_linked.specs.Places.{places_of, text_size};
-ghost use Rattle.c6x_linked.specs.declared.limits.TheConstants.{MOST_SEGMENT_BYTES};
+ghost use Rattle.c6x_layout.specs.FilePlaces.{places_of, text_size};
+ghost use Rattle.c6x_layout.specs.declared.file_limits.TheConstants.{MOST_SEGMENT_BYTES};
 ghost use Rattle.c6x_symbols.specs.Rules.{Passes, must, refusal};
 ghost use Rattle.c6x_symbols.specs.declared.link_rule.LinkRule.TheVariants.{Large};
 ghost use Rattle.c6x_layout.specs.Groups.{ends_of};
@@ -9,12 +9,11 @@ ghost use Rattle.c6x_layout.specs.declared.limits.TheConstants.{MOST_STUB_WORD};
 
 use crate::commons::commons_end;
 use crate::ends::Ends;
+use crate::file_limits::MOST_SEGMENT_BYTES;
 use crate::group::Group;
 use crate::limits::MOST_STUB_WORD;
 use crate::placing::group_end;
-use c6x_linked::limits::MOST_SEGMENT_BYTES;
-use c6x_objects::Part;
-use c6x_symbols::{Bindings, LinkError, LinkRule, check};
+use c6x_symbols::{Bindings, LinkError, LinkRule, Part, check};
 use std::alloc::Global;
 
 /// Checks the bytes of a segment (K4).

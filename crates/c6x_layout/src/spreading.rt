@@ -6,7 +6,7 @@ use crate::group::Group;
 use crate::place::Place;
 use crate::placing::place_group;
 use c6x_base::Row;
-use c6x_objects::Part;
+use c6x_symbols::Part;
 use std::alloc::{AllocError, Global};
 
 /// The places of all sections, where the text begins at `text` and the parts of the data at `range`, and the groups of the data

@@ -1,7 +1,7 @@
 ghost use Rattle.std.specs.Prelude.{◌≡◌, ◌^◌, ◌≤◌, false, All, IfOk, length};
 ghost use Rattle.c6x_dsbt.specs.Needs.{stubs_of, words_of};
-ghost use Rattle.c6x_objects.specs.Objects.{IsObject};
-ghost use Rattle.c6x_objects.specs.Parts.{parts_of};
+ghost use Rattle.c6x_symbols.specs.Objects.{IsObject};
+ghost use Rattle.c6x_symbols.specs.Parts.{parts_of};
 ghost use Rattle.c6x_plan.specs.Limits.{IsLinkPlan};
 ghost use Rattle.c6x_plan.specs.declared.limits.TheConstants.{MOST_OBJECTS};
 ghost use Rattle.c6x_symbols.specs.Bindings.{bindings_of};
@@ -15,9 +15,8 @@ use crate::layout::Layout;
 use crate::working::{check_sizes, sizes_of};
 use c6x_dsbt::Tables;
 use c6x_elf::File;
-use c6x_objects::{Part, parts};
 use c6x_plan::LinkPlan;
-use c6x_symbols::{Bindings, LinkError};
+use c6x_symbols::{Bindings, LinkError, Part, parts};
 use std::alloc::Global;
 
 /// The addresses of a linked file, or the first broken rule of alignments (K3) and sizes (K4).

@@ -1,8 +1,8 @@
 ghost use Rattle.std.specs.Prelude.{◌≡◌, ◌+◌, ◌-◌, ◌*◌, ◌^◌, ◌≤◌, false, All, IfOk, OnOk, length};
-ghost use Rattle.c6x_linked.specs.Places.{places_of, text_size};
-ghost use Rattle.c6x_linked.specs.declared.limits.TheConstants.{MOST_SEGMENT_BYTES, TEXT_START};
-ghost use Rattle.c6x_objects.specs.Objects.{IsObject};
-ghost use Rattle.c6x_objects.specs.Parts.{parts_of};
+ghost use Rattle.c6x_layout.specs.FilePlaces.{places_of, text_size};
+ghost use Rattle.c6x_layout.specs.declared.file_limits.TheConstants.{MOST_SEGMENT_BYTES, TEXT_START};
+ghost use Rattle.c6x_symbols.specs.Objects.{IsObject};
+ghost use Rattle.c6x_symbols.specs.Parts.{parts_of};
 ghost use Rattle.c6x_plan.specs.Limits.{IsLinkPlan};
 ghost use Rattle.c6x_plan.specs.declared.limits.TheConstants.{MOST_OBJECTS};
 ghost use Rattle.c6x_symbols.specs.Rules.{Passes};
@@ -13,18 +13,18 @@ ghost use Rattle.c6x_layout.specs.declared.limits.TheConstants.{PAGE};
 ghost use Rattle.c6x_layout.specs.Shared.{IsHeldName};
 ghost use Rattle.c6x_layout.specs.Sizes.{sizes_of, sizes_refusal};
 
+use crate::counts::Counts;
+use crate::file_limits::TEXT_START;
 use crate::laying::{code_of, counts_of};
 use crate::limits::PAGE;
+use crate::places::{Places, places_of};
 use crate::sizes::Sizes;
 use crate::sizing::{check_size, check_words, data_ends};
 use c6x_base::least_multiple;
 use c6x_dsbt::Tables;
 use c6x_elf::File;
-use c6x_linked::limits::TEXT_START;
-use c6x_linked::{Counts, Places, places_of};
-use c6x_objects::Part;
 use c6x_plan::LinkPlan;
-use c6x_symbols::{Bindings, LinkError};
+use c6x_symbols::{Bindings, LinkError, Part};
 use std::alloc::{AllocError, Global};
 
 /// The numbers of a layout.
@@ -65,7 +65,7 @@ pub fn sizes_of(
 }
 
 /// Where the tables of the text stand.
-#[tactic(auto, unfolding(c6x_linked::specs::Places::places_of), using(crate::proofs::Sized::text_small))]
+#[tactic(auto, unfolding(crate::specs::FilePlaces::places_of), using(crate::proofs::Sized::text_small))]
 fn text_of(counts: &Counts) -> Places
     requires { AreSmall counts.now }
     ensures value { result ≡ places_of counts.now }

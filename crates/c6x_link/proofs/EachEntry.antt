@@ -13,12 +13,12 @@ use Rattle.c6x_elf.specs.Types.{Rela}
 use Rattle.c6x_elf.specs.declared.file.File.{File}
 use Rattle.c6x_elf.specs.declared.section.Section.{Section}
 use Rattle.c6x_layout.specs.Regions.{sections_at, sections_in}
-use Rattle.c6x_link_entries.specs.declared.entry.Entry.{Entry}
-use Rattle.c6x_link_targets.specs.LinkEntries.{file_link_entries, link_entries, link_entry}
-use Rattle.c6x_link_targets.specs.Working.{Working}
-use Rattle.c6x_objects.specs.Entries.{entry_of, file_entries, is_own, is_used, table_entries, unread}
-use Rattle.c6x_objects.specs.Sections.{is_allocated_at}
-use Rattle.c6x_objects.specs.declared.object_entry.ObjectEntry.{ObjectEntry}
+use Rattle.c6x_symbols.specs.declared.entry.Entry.{Entry}
+use Rattle.c6x_link.specs.LinkEntries.{file_link_entries, link_entries, link_entry}
+use Rattle.c6x_link.specs.Working.{Working}
+use Rattle.c6x_symbols.specs.Entries.{entry_of, file_entries, is_own, is_used, table_entries, unread}
+use Rattle.c6x_symbols.specs.Sections.{is_allocated_at}
+use Rattle.c6x_symbols.specs.declared.object_entry.ObjectEntry.{ObjectEntry}
 use Rattle.c6x_symbols.specs.Bindings.{name_in}
 
 flat_all : {X A : Type 0} (P : A → Type 0) (f : X → List A) (xs : List X) → All (λ x. All P (f x)) xs → All P (flat_map f xs)

@@ -14,23 +14,23 @@ use Rattle.c6x_elf.specs.declared.section.Section.{Section}
 use Rattle.c6x_layout.proofs.Sized.{ordered}
 use Rattle.c6x_layout.specs.Layouts.{Laying, code_end, file_end, places_of, sections_end, table_at}
 use Rattle.c6x_layout.specs.Regions.{names_at, names_in, region_of_section, section_region, sections_at, sections_in, zone_region}
-use Rattle.c6x_link_entries.specs.Entries.{IsIn}
-use Rattle.c6x_link_entries.specs.Rules.{is_text}
-use Rattle.c6x_link_entries.specs.declared.entry.Entry.{Entry}
-use Rattle.c6x_link_targets.specs.Addresses.{address_in}
-use Rattle.c6x_link_targets.specs.LinkEntries.{entry_on, link_entries, link_entry, room_of, section_at, stands_in_text}
-use Rattle.c6x_link_targets.specs.Targets.{target_of}
-use Rattle.c6x_link_targets.specs.Working.{Working}
-use Rattle.c6x_link_targets.specs.declared.target.Target.{Target}
-use Rattle.c6x_linked.specs.declared.limits.TheConstants.{TEXT_START}
-use Rattle.c6x_objects.specs.Objects.{IsObject}
-use Rattle.c6x_objects.specs.Parts.{part_of, parts_of}
-use Rattle.c6x_objects.specs.Sections.{is_allocated, is_allocated_at, is_allocated_one, zone_of}
-use Rattle.c6x_objects.specs.declared.object_entry.ObjectEntry.{ObjectEntry}
-use Rattle.c6x_objects.specs.declared.part.Part.{Part}
-use Rattle.c6x_objects.specs.declared.region.Region.TheVariants.{Absolute}
-use Rattle.c6x_objects.specs.declared.zone.Zone.{Zone}
-use Rattle.c6x_objects.specs.declared.zone.Zone.TheVariants.{Far, Near, Text}
+use Rattle.c6x_symbols.specs.LinkEntries.{IsIn}
+use Rattle.c6x_symbols.specs.EntryRules.{is_text}
+use Rattle.c6x_symbols.specs.declared.entry.Entry.{Entry}
+use Rattle.c6x_link.specs.Addresses.{address_in}
+use Rattle.c6x_link.specs.LinkEntries.{entry_on, link_entries, link_entry, room_of, section_at, stands_in_text}
+use Rattle.c6x_link.specs.Targets.{target_of}
+use Rattle.c6x_link.specs.Working.{Working}
+use Rattle.c6x_link.specs.declared.target.Target.{Target}
+use Rattle.c6x_layout.specs.declared.file_limits.TheConstants.{TEXT_START}
+use Rattle.c6x_symbols.specs.Objects.{IsObject}
+use Rattle.c6x_symbols.specs.Parts.{part_of, parts_of}
+use Rattle.c6x_symbols.specs.Sections.{is_allocated, is_allocated_at, is_allocated_one, zone_of}
+use Rattle.c6x_symbols.specs.declared.object_entry.ObjectEntry.{ObjectEntry}
+use Rattle.c6x_symbols.specs.declared.part.Part.{Part}
+use Rattle.c6x_symbols.specs.declared.region.Region.TheVariants.{Absolute}
+use Rattle.c6x_symbols.specs.declared.zone.Zone.{Zone}
+use Rattle.c6x_symbols.specs.declared.zone.Zone.TheVariants.{Far, Near, Text}
 use Rattle.c6x_link.proofs.EachEntry.{IsOf, Serves, all_entries}
 use Rattle.c6x_link.proofs.Found.{OwnPart, own_part}
 use Rattle.c6x_link.proofs.Inside.{LiesIn}

@@ -1,13 +1,13 @@
 use Rattle.std.proofs.Common.{◌≡◌, ℕ, ◌+◌, false, List, Option, None, Some, Ok, if◌then◌else◌, length, refl, subst, ap}
 use Rattle.c6x_elf.specs.declared.file.File.{File}
-use Rattle.c6x_fields.specs.Fields.{IsLast, patched}
-use Rattle.c6x_fields.proofs.Held.{held_in_list}
+use Rattle.c6x_reloc.specs.FieldBits.{IsLast, patched}
+use Rattle.c6x_reloc.proofs.Held.{held_in_list}
 use Rattle.c6x_link.specs.Linked.{code_of, content_of, file_or, link_refusal, linked, linked_of}
-use Rattle.c6x_link_entries.specs.Entries.{data_fields, field_in, is_dynamic, shown, text_fields}
-use Rattle.c6x_link_entries.specs.declared.entry.Entry.{Entry}
-use Rattle.c6x_link_images.specs.Images.{data_image, text_image}
-use Rattle.c6x_link_targets.specs.LinkEntries.{link_entries}
-use Rattle.c6x_link_targets.specs.Working.{Working}
+use Rattle.c6x_symbols.specs.LinkEntries.{data_fields, field_in, is_dynamic, shown, text_fields}
+use Rattle.c6x_symbols.specs.declared.entry.Entry.{Entry}
+use Rattle.c6x_link.specs.Images.{data_image, text_image}
+use Rattle.c6x_link.specs.LinkEntries.{link_entries}
+use Rattle.c6x_link.specs.Working.{Working}
 use Rattle.c6x_plan.specs.declared.link_plan.LinkPlan.{LinkPlan}
 use Rattle.c6x_reloc.specs.Fields.{HoldsValue}
 use Rattle.c6x_reloc.specs.declared.reloc_kind.RelocKind.{RelocKind}

@@ -13,20 +13,20 @@ use Rattle.c6x_elf.specs.declared.file.File.{File}
 use Rattle.c6x_elf.specs.declared.section.Section.{Section}
 use Rattle.c6x_layout.specs.Dynamics.{file_filled, filled_count, is_filled_entry, is_filled_word, is_word_kind}
 use Rattle.c6x_layout.specs.Regions.{is_data, moves, region_of_section, section_region, sections_at, sections_in, wanted_region, zone_region}
-use Rattle.c6x_link_entries.specs.Entries.{dynamic_relas, is_dynamic, is_dynamic_kind, rela_of, relas_at}
-use Rattle.c6x_link_entries.specs.Rules.{is_fixed, is_text, is_word}
-use Rattle.c6x_link_entries.specs.declared.entry.Entry.{Entry}
-use Rattle.c6x_link_images.specs.Words.{rela_on, word_rela, word_relas}
-use Rattle.c6x_link_targets.specs.LinkEntries.{entry_on, file_link_entries, kind_of_entry, link_entries, link_entry, ok_kind, stands_in_text}
-use Rattle.c6x_link_targets.specs.Targets.{target_of}
-use Rattle.c6x_link_targets.specs.Working.{Working}
-use Rattle.c6x_objects.specs.Entries.{file_entries}
-use Rattle.c6x_objects.specs.Sections.{is_allocated, is_allocated_at, is_allocated_one, zone_of}
-use Rattle.c6x_objects.specs.declared.object_entry.ObjectEntry.{ObjectEntry}
-use Rattle.c6x_objects.specs.declared.region.Region.{Region}
-use Rattle.c6x_objects.specs.declared.region.Region.TheVariants.{Absolute, Data, Import as Elsewhere, Text}
-use Rattle.c6x_objects.specs.declared.zone.Zone.{Zone}
-use Rattle.c6x_objects.specs.declared.zone.Zone.TheVariants.{Far, Near, Text as TextZone}
+use Rattle.c6x_symbols.specs.LinkEntries.{dynamic_relas, is_dynamic, is_dynamic_kind, rela_of, relas_at}
+use Rattle.c6x_symbols.specs.EntryRules.{is_fixed, is_text, is_word}
+use Rattle.c6x_symbols.specs.declared.entry.Entry.{Entry}
+use Rattle.c6x_link.specs.Words.{rela_on, word_rela, word_relas}
+use Rattle.c6x_link.specs.LinkEntries.{entry_on, file_link_entries, kind_of_entry, link_entries, link_entry, ok_kind, stands_in_text}
+use Rattle.c6x_link.specs.Targets.{target_of}
+use Rattle.c6x_link.specs.Working.{Working}
+use Rattle.c6x_symbols.specs.Entries.{file_entries}
+use Rattle.c6x_symbols.specs.Sections.{is_allocated, is_allocated_at, is_allocated_one, zone_of}
+use Rattle.c6x_symbols.specs.declared.object_entry.ObjectEntry.{ObjectEntry}
+use Rattle.c6x_symbols.specs.declared.region.Region.{Region}
+use Rattle.c6x_symbols.specs.declared.region.Region.TheVariants.{Absolute, Data, Import as Elsewhere, Text}
+use Rattle.c6x_symbols.specs.declared.zone.Zone.{Zone}
+use Rattle.c6x_symbols.specs.declared.zone.Zone.TheVariants.{Far, Near, Text as TextZone}
 use Rattle.c6x_reloc.specs.Table.{kind_in, kind_or, row_of}
 use Rattle.c6x_reloc.specs.declared.reloc_error.RelocError.TheVariants.{Kind}
 use Rattle.c6x_reloc.specs.declared.reloc_kind.RelocKind.{RelocKind}

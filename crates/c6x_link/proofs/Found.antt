@@ -6,9 +6,9 @@ use Rattle.std.proofs.lemmas.Bool.Decides.{nat_tests}
 use Rattle.c6x_elf.specs.Parts.{has_bytes}
 use Rattle.c6x_elf.specs.declared.file.File.{File}
 use Rattle.c6x_elf.specs.declared.section.Section.{Section}
-use Rattle.c6x_objects.specs.Parts.{file_parts, part_at, part_of, parts_of}
-use Rattle.c6x_objects.specs.Sections.{is_allocated}
-use Rattle.c6x_objects.specs.declared.part.Part.{Part}
+use Rattle.c6x_symbols.specs.Parts.{file_parts, part_at, part_of, parts_of}
+use Rattle.c6x_symbols.specs.Sections.{is_allocated}
+use Rattle.c6x_symbols.specs.declared.part.Part.{Part}
 use Rattle.c6x_link.proofs.Inside.{AreThe, has_part, of_part}
 
 are_append : (object section : ℕ) (the : Part) (ps qs : List Part) → AreThe object section the ps → AreThe object section the qs → AreThe object section the (ps ++ qs)

@@ -3,8 +3,8 @@ use Rattle.std.proofs.Common.{◌≡◌, ℕ, zero, suc, ◌+◌, ◌-◌, ◌*�
 use Rattle.std.specs.Prelude.{filter, slice_get}
 use Rattle.c6x_layout.specs.Places.{place_of, places_end, places_from, start_of}
 use Rattle.c6x_layout.specs.declared.place.Place.{Place}
-use Rattle.c6x_link_targets.specs.Addresses.{address_in}
-use Rattle.c6x_objects.specs.declared.part.Part.{Part}
+use Rattle.c6x_link.specs.Addresses.{address_in}
+use Rattle.c6x_symbols.specs.declared.part.Part.{Part}
 
 abbrev pub is_of : ℕ → ℕ → Place → Bool
 is_of object section p = p.object == object && p.section == section

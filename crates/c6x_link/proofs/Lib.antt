@@ -1,3 +1,13 @@
+pub mod FoundTargets
+pub mod Symbols
+pub mod Counted
+pub mod Targeted
+pub mod FewSymbols
+pub mod SectionRows
+pub mod ImageOrder
+pub mod ImageParts
+pub mod Listed
+pub mod Few
 pub mod FieldsHeld
 pub mod EachEntry
 pub mod Inside

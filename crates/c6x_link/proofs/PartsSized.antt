@@ -3,26 +3,26 @@ use Rattle.std.proofs.Common.{◌≡◌, ℕ, ◌+◌, ◌-◌, ◌≤◌, List,
 use Rattle.std.proofs.lemmas.List.{length-map}
 use Rattle.std.specs.List.{enumerate_from}
 use Rattle.c6x_elf.specs.Names.{name_table}
-use Rattle.c6x_fields.proofs.Bytes.{patched_length}
+use Rattle.c6x_reloc.proofs.Bytes.{patched_length}
 use Rattle.c6x_layout.proofs.Bounds.{bounds, data_sized, text_sized}
 use Rattle.c6x_layout.specs.Dynamics.{bound_name_at, filled_count, module_names, own_name, shared_names, shared_numbers, strings_of_link}
 use Rattle.c6x_layout.specs.Layouts.{Laying, code_end, counts_of, data_align, data_end, file_end, layout_of, size_refusal, table_at, text_align}
 use Rattle.c6x_layout.specs.declared.layout.Layout.{Layout}
 use Rattle.c6x_link.specs.Linked.{code_of, content_of, parts_of}
-use Rattle.c6x_link_entries.specs.Entries.{data_fields, dynamic_relas, text_fields}
-use Rattle.c6x_link_images.specs.Exports.{export_of, import_of, shared_of}
-use Rattle.c6x_link_images.specs.Images.{data_image, text_image}
-use Rattle.c6x_link_images.specs.Words.{stub_rela, stub_relas, word_relas}
-use Rattle.c6x_link_images.specs.Worked.{IsWorkedOut, laying_in}
-use Rattle.c6x_link_targets.specs.LinkEntries.{link_entries}
-use Rattle.c6x_link_targets.specs.Working.{Working}
-use Rattle.c6x_linked.specs.Places.{text_size}
-use Rattle.c6x_linked.specs.Sizes.{AreSized}
-use Rattle.c6x_linked.specs.Tables.{counts_of as counts_in, if_named, names_of, shared_name, shared_names as names_shared, strings_of}
-use Rattle.c6x_linked.specs.declared.counts.Counts.{Counts}
-use Rattle.c6x_linked.specs.declared.limits.TheConstants.{MOST_ALIGN, MOST_SEGMENT_BYTES, TEXT_START}
-use Rattle.c6x_linked.specs.declared.parts.Parts.{Parts}
-use Rattle.c6x_linked.specs.declared.shared.Shared.{Shared}
+use Rattle.c6x_symbols.specs.LinkEntries.{data_fields, dynamic_relas, text_fields}
+use Rattle.c6x_link.specs.Exports.{export_of, import_of, shared_of}
+use Rattle.c6x_link.specs.Images.{data_image, text_image}
+use Rattle.c6x_link.specs.Words.{stub_rela, stub_relas, word_relas}
+use Rattle.c6x_link.specs.Worked.{IsWorkedOut, laying_in}
+use Rattle.c6x_link.specs.LinkEntries.{link_entries}
+use Rattle.c6x_link.specs.Working.{Working}
+use Rattle.c6x_layout.specs.FilePlaces.{text_size}
+use Rattle.c6x_layout.specs.FileSizes.{AreSized}
+use Rattle.c6x_layout.specs.Tables.{counts_of as counts_in, if_named, names_of, shared_name, shared_names as names_shared, strings_of}
+use Rattle.c6x_layout.specs.declared.counts.Counts.{Counts}
+use Rattle.c6x_layout.specs.declared.file_limits.TheConstants.{MOST_ALIGN, MOST_SEGMENT_BYTES, TEXT_START}
+use Rattle.c6x_layout.specs.declared.parts.Parts.{Parts}
+use Rattle.c6x_layout.specs.declared.shared.Shared.{Shared}
 use Rattle.c6x_symbols.specs.Bindings.{BoundName, bound_at, exports_of, imports_of}
 
 -- counts by their parts

@@ -7,22 +7,22 @@ use Rattle.c6x_layout.specs.Alignments.{alignments_refusal}
 use Rattle.c6x_layout.specs.Layouts.{Laying, code_end, file_end, layout_of, layout_refusal, size_refusal, places_of, stubs_at, table_at, words_at, words_end}
 use Rattle.c6x_layout.specs.declared.layout.Layout.{Layout}
 use Rattle.c6x_layout.specs.declared.limits.TheConstants.{STUB_BYTES}
-use Rattle.c6x_linked.specs.declared.limits.TheConstants.{TEXT_START}
-use Rattle.c6x_link_images.specs.Worked.{HasFewSymbols, IsWorkedOut, laying_in}
+use Rattle.c6x_layout.specs.declared.file_limits.TheConstants.{TEXT_START}
+use Rattle.c6x_link.specs.Worked.{HasFewSymbols, IsWorkedOut, laying_in}
 use Rattle.c6x_dsbt.specs.Wanted.{wanted_at}
 use Rattle.c6x_dsbt.specs.declared.wanted.Wanted.{Wanted}
 use Rattle.c6x_dsbt.specs.declared.wanted.Wanted.TheVariants.{Bound, Local}
 use Rattle.c6x_layout.specs.Regions.{wanted_region}
-use Rattle.c6x_link_entries.specs.Entries.{IsIn, NamesSymbol}
-use Rattle.c6x_link_targets.proofs.FewSymbols.{first_none, import_small, later_none}
-use Rattle.c6x_link_targets.specs.LinkEntries.{entry_on, link_entries, link_entry}
-use Rattle.c6x_link_targets.specs.Rooms.{HasRoom}
-use Rattle.c6x_link_targets.specs.Targets.{import_symbol, number_of_bound, symbol_of_region, target_of}
-use Rattle.c6x_objects.specs.declared.region.Region.{Region}
-use Rattle.c6x_objects.specs.declared.region.Region.TheVariants.{Absolute, Data, Import, Text}
+use Rattle.c6x_symbols.specs.LinkEntries.{IsIn, NamesSymbol}
+use Rattle.c6x_link.proofs.FewSymbols.{first_none, import_small, later_none}
+use Rattle.c6x_link.specs.LinkEntries.{entry_on, link_entries, link_entry}
+use Rattle.c6x_link.specs.Rooms.{HasRoom}
+use Rattle.c6x_link.specs.Targets.{import_symbol, number_of_bound, symbol_of_region, target_of}
+use Rattle.c6x_symbols.specs.declared.region.Region.{Region}
+use Rattle.c6x_symbols.specs.declared.region.Region.TheVariants.{Absolute, Data, Import, Text}
 use Rattle.c6x_link.proofs.EachEntry.{all_entries}
-use Rattle.c6x_link_targets.specs.Working.{Working, worked_out}
-use Rattle.c6x_objects.specs.Objects.{IsObject}
+use Rattle.c6x_link.specs.Working.{Working, worked_out}
+use Rattle.c6x_symbols.specs.Objects.{IsObject}
 use Rattle.c6x_link.proofs.EntriesInside.{IsPlaced, all_inside}
 
 pub places_are : (l : Laying) → (layout_of l).places ≡ places_of l

@@ -5,11 +5,11 @@ use Rattle.c6x_layout.proofs.Sized.{ordered}
 use Rattle.c6x_layout.specs.Layouts.{Laying, file_end, group_in, near_bytes_end, near_end, near_zeros_end, places_of, sections_end, table_at, words_end}
 use Rattle.c6x_layout.specs.Places.{in_far_bytes, in_far_zeros, in_near_bytes, in_near_zeros, in_text, is_far, is_near, is_text, places_end, places_from}
 use Rattle.c6x_layout.specs.declared.place.Place.{Place}
-use Rattle.c6x_link_targets.specs.Addresses.{address_in}
-use Rattle.c6x_linked.specs.declared.limits.TheConstants.{TEXT_START}
-use Rattle.c6x_objects.specs.Parts.{parts_of}
-use Rattle.c6x_objects.specs.declared.part.Part.{Part}
-use Rattle.c6x_objects.specs.declared.zone.Zone.TheVariants.{Far, Near, Text}
+use Rattle.c6x_link.specs.Addresses.{address_in}
+use Rattle.c6x_layout.specs.declared.file_limits.TheConstants.{TEXT_START}
+use Rattle.c6x_symbols.specs.Parts.{parts_of}
+use Rattle.c6x_symbols.specs.declared.part.Part.{Part}
+use Rattle.c6x_symbols.specs.declared.zone.Zone.TheVariants.{Far, Near, Text}
 use Rattle.c6x_link.proofs.Found.{OwnPart}
 use Rattle.c6x_link.proofs.Inside.{AreThe, LiesIn, filter_are, filter_has, filter_lacks, found_first, found_second, has_part, has_place, has_same, lies_in}
 

@@ -1,1 +1,14 @@
+pub mod Working
+pub mod Addresses
+pub mod Targets
+pub mod LinkEntries
+pub mod SectionAddresses
+pub mod Symbols
+pub mod Rooms
+pub mod TargetRows
+pub mod Images
+pub mod Words
+pub mod Exports
+pub mod Sections
+pub mod Worked
 pub mod Linked

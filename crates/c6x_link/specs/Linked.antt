@@ -3,14 +3,14 @@
 use Rattle.std.specs.Prelude.{ℕ, ◌-◌, true, false, Bool, List, ◌++◌, Option, None, Some, Result, Ok, Err, map, is_some, option_map}
 use Rattle.c6x_dsbt.specs.Plans.{tables_refusal}
 use Rattle.c6x_elf.specs.declared.file.File.{File}
-use Rattle.c6x_fields.specs.Fields.{patched}
+use Rattle.c6x_reloc.specs.FieldBits.{patched}
 use Rattle.c6x_layout.specs.Layouts.{Laying, layout_refusal}
 use Rattle.c6x_layout.specs.Regions.{bound_region}
-use Rattle.c6x_link_entries.specs.Entries.{data_fields, dynamic_relas, entries_error, text_fields}
-use Rattle.c6x_link_entries.specs.Rules.{is_text}
-use Rattle.c6x_link_entries.specs.declared.entry.EntryError.{EntryError}
-use Rattle.c6x_linked.specs.File.{linked_file}
-use Rattle.c6x_linked.specs.declared.parts.Parts.{Parts}
+use Rattle.c6x_symbols.specs.LinkEntries.{data_fields, dynamic_relas, entries_error, text_fields}
+use Rattle.c6x_symbols.specs.EntryRules.{is_text}
+use Rattle.c6x_symbols.specs.declared.entry.EntryError.{EntryError}
+use Rattle.c6x_layout.specs.File.{linked_file}
+use Rattle.c6x_layout.specs.declared.parts.Parts.{Parts}
 use Rattle.c6x_plan.specs.declared.link_plan.LinkPlan.{LinkPlan}
 use Rattle.c6x_symbols.specs.Bindings.{binding_in, bindings_of, bound_at, name_in, names_refusal}
 use Rattle.c6x_symbols.specs.Names.{name_at}
@@ -18,12 +18,12 @@ use Rattle.c6x_symbols.specs.Rules.{Refusal, ◌<|>◌, must, refusal}
 use Rattle.c6x_symbols.specs.declared.binding.Binding.{Binding}
 use Rattle.c6x_symbols.specs.declared.binding.Binding.TheVariants.{Common, Import, Strong, Table, Weak}
 use Rattle.c6x_symbols.specs.declared.link_rule.LinkRule.TheVariants.{NoEntry}
-use Rattle.c6x_link_images.specs.Exports.{shared_of}
-use Rattle.c6x_link_images.specs.Images.{data_image, text_image}
-use Rattle.c6x_link_images.specs.Words.{stub_relas, word_relas}
-use Rattle.c6x_link_targets.specs.Addresses.{bound_address}
-use Rattle.c6x_link_targets.specs.LinkEntries.{link_entries}
-use Rattle.c6x_link_targets.specs.Working.{Working, laying_of, worked_out, working_of}
+use Rattle.c6x_link.specs.Exports.{shared_of}
+use Rattle.c6x_link.specs.Images.{data_image, text_image}
+use Rattle.c6x_link.specs.Words.{stub_relas, word_relas}
+use Rattle.c6x_link.specs.Addresses.{bound_address}
+use Rattle.c6x_link.specs.LinkEntries.{link_entries}
+use Rattle.c6x_link.specs.Working.{Working, laying_of, worked_out, working_of}
 
 -- A name that is bound to a symbol's definition, and not to a common or the table.
 abbrev pub is_symbol : Binding → Bool

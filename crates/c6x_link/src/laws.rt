@@ -1,12 +1,12 @@
 ghost use Rattle.std.specs.Prelude.{◌≡◌, ◌+◌, ℕ, List, Ok, None, Some, false, length};
 ghost use Rattle.c6x_elf.specs.declared.file.File.{File};
-ghost use Rattle.c6x_fields.specs.Fields.{IsLast};
+ghost use Rattle.c6x_reloc.specs.FieldBits.{IsLast};
 ghost use Rattle.c6x_link.specs.Linked.{code_of, content_of, link_refusal, linked, linked_of};
-ghost use Rattle.c6x_link_entries.specs.Entries.{data_fields, field_in, is_dynamic, text_fields};
-ghost use Rattle.c6x_link_entries.specs.declared.entry.Entry.{Entry};
-ghost use Rattle.c6x_link_images.specs.Images.{data_image, text_image};
-ghost use Rattle.c6x_link_targets.specs.LinkEntries.{link_entries};
-ghost use Rattle.c6x_link_targets.specs.Working.{working_of};
+ghost use Rattle.c6x_symbols.specs.LinkEntries.{data_fields, field_in, is_dynamic, text_fields};
+ghost use Rattle.c6x_symbols.specs.declared.entry.Entry.{Entry};
+ghost use Rattle.c6x_link.specs.Images.{data_image, text_image};
+ghost use Rattle.c6x_link.specs.LinkEntries.{link_entries};
+ghost use Rattle.c6x_link.specs.Working.{working_of};
 ghost use Rattle.c6x_plan.specs.declared.link_plan.LinkPlan.{LinkPlan};
 ghost use Rattle.c6x_reloc.specs.Fields.{HoldsValue};
 ghost use Rattle.c6x_reloc.specs.Value.{value_of};

@@ -5,30 +5,30 @@ ghost use Rattle.c6x_dsbt.specs.Plans.{tables_refusal};
 ghost use Rattle.c6x_layout.specs.Alignments.{alignments_refusal};
 ghost use Rattle.c6x_layout.specs.Layouts.{laying, layout_of, layout_refusal};
 ghost use Rattle.c6x_link.specs.Linked.{file_refusal, laid_refusal, link_refusal, linked_of, parts_of};
-ghost use Rattle.c6x_link_images.specs.Worked.{IsWorkedOut};
-ghost use Rattle.c6x_linked.specs.File.{linked_file};
-ghost use Rattle.c6x_objects.specs.Objects.{IsObject};
+ghost use Rattle.c6x_link.specs.Worked.{IsWorkedOut};
+ghost use Rattle.c6x_layout.specs.File.{linked_file};
+ghost use Rattle.c6x_symbols.specs.Objects.{IsObject};
 ghost use Rattle.c6x_plan.specs.Limits.{IsLinkPlan};
 ghost use Rattle.c6x_plan.specs.declared.limits.TheConstants.{MOST_OBJECTS};
 ghost use Rattle.c6x_symbols.specs.Bindings.{bindings_of};
-ghost use Rattle.c6x_link_targets.specs.Working.{laying_with, worked_out};
+ghost use Rattle.c6x_link.specs.Working.{laying_with, worked_out};
 ghost use Rattle.c6x_symbols.specs.Rules.{◌<|>◌, Passes};
 
+use crate::entering::link_entries;
+use crate::link_value::Link;
 use crate::parting::parts_of;
 use crate::setting::set_images;
 use crate::starting::entry_of;
 use c6x_dsbt::{Tables, plan_tables};
 use c6x_elf::File;
-use c6x_layout::{Layout, lay_out};
-use c6x_link_targets::{Link, link_entries};
-use c6x_linked::linked_file;
+use c6x_layout::{Layout, lay_out, linked_file};
 use c6x_plan::LinkPlan;
 use c6x_symbols::{Bindings, LinkError, LinkRule, check, resolve};
 use std::alloc::Global;
 
 /// The module that a link plan makes of objects (`specs/Linked.antt`), or the first broken rule of a link (K1 to K14) with
 /// its object and its number.
-#[tactic(auto, unfolding(crate::specs::Linked::link_refusal, crate::specs::Linked::linked_of, c6x_link_targets::specs::Working::laying_of, c6x_link_targets::specs::Working::working_of))]
+#[tactic(auto, unfolding(crate::specs::Linked::link_refusal, crate::specs::Linked::linked_of, crate::specs::Working::laying_of, crate::specs::Working::working_of))]
 pub fn link(alloc: Global, objects: &[File], plan: &LinkPlan) -> Result<File, LinkError>
     requires few { length objects.now ≤ MOST_OBJECTS }
     requires form { All (IsObject false) objects.now }

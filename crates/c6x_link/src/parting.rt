@@ -1,16 +1,17 @@
 ghost use Rattle.std.specs.Prelude.{◌≡◌, ◌++◌, IfOk, List, ℕ, Option, Some, None};
 ghost use Rattle.c6x_link.specs.Linked.{code_of, content_of, entry_of, or_zero, parts_of};
-ghost use Rattle.c6x_link_entries.specs.Entries.{dynamic_relas};
-ghost use Rattle.c6x_link_images.specs.Worked.{IsWorkedOut};
-ghost use Rattle.c6x_link_images.specs.Words.{word_relas};
-ghost use Rattle.c6x_link_targets.specs.LinkEntries.{link_entries};
+ghost use Rattle.c6x_symbols.specs.LinkEntries.{dynamic_relas};
+ghost use Rattle.c6x_link.specs.Worked.{IsWorkedOut};
+ghost use Rattle.c6x_link.specs.Words.{word_relas};
+ghost use Rattle.c6x_link.specs.LinkEntries.{link_entries};
 
+use crate::link_value::Link;
+use crate::loader_words::{stub_relas, word_relas};
+use crate::sharing::shared_of;
 use c6x_base::{Bytes, Name, Row};
 use c6x_elf::Rela;
-use c6x_link_entries::{Entry, dynamic_relas};
-use c6x_link_images::{shared_of, stub_relas, word_relas};
-use c6x_link_targets::Link;
-use c6x_linked::Parts;
+use c6x_layout::Parts;
+use c6x_symbols::{Entry, dynamic_relas};
 use std::alloc::{AllocError, Global};
 
 /// All that is worked out of a module, where its start and its bytes with their fields set are told.

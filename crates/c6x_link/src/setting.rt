@@ -1,18 +1,18 @@
 ghost use Rattle.std.specs.Prelude.{◌≡◌, ◌-◌, All, IfOk, OnOk, length, option_map};
-ghost use Rattle.c6x_fields.specs.Fields.{AreBytes, patched};
+ghost use Rattle.c6x_reloc.specs.FieldBits.{AreBytes, patched};
 ghost use Rattle.c6x_link.specs.Linked.{code_of, content_of, entry_refusal, of_entry};
-ghost use Rattle.c6x_link_entries.specs.Entries.{IsIn, data_fields, entries_error, text_fields};
+ghost use Rattle.c6x_symbols.specs.LinkEntries.{IsIn, data_fields, entries_error, text_fields};
 ghost use Rattle.c6x_layout.specs.Layouts.{code_end, file_end, table_at};
-ghost use Rattle.c6x_link_images.specs.Images.{data_image as image_of_data, text_image as image_of_text};
-ghost use Rattle.c6x_link_images.specs.Worked.{IsWorkedOut, laying_in};
-ghost use Rattle.c6x_linked.specs.declared.limits.TheConstants.{TEXT_START};
-ghost use Rattle.c6x_link_targets.specs.LinkEntries.{link_entries};
+ghost use Rattle.c6x_link.specs.Images.{data_image as image_of_data, text_image as image_of_text};
+ghost use Rattle.c6x_link.specs.Worked.{IsWorkedOut, laying_in};
+ghost use Rattle.c6x_layout.specs.declared.file_limits.TheConstants.{TEXT_START};
+ghost use Rattle.c6x_link.specs.LinkEntries.{link_entries};
 ghost use Rattle.c6x_symbols.specs.Rules.{Passes};
 
-use c6x_link_entries::{Entry, set_entries};
-use c6x_link_images::{data_image, text_image};
-use c6x_link_targets::Link;
-use c6x_symbols::LinkError;
+use crate::images::text_image;
+use crate::link_value::Link;
+use crate::values::data_image;
+use c6x_symbols::{Entry, LinkError, set_entries};
 use std::alloc::Global;
 
 /// The bytes of text and of data with the fields of all entries set, or the first rule that an entry breaks.
@@ -37,7 +37,7 @@ pub fn set_images(
 }
 
 /// Sets the fields of entries in text and data, or tells the first rule that one breaks.
-#[tactic(auto, using(c6x_fields::proofs::Whole::whole))]
+#[tactic(auto, using(c6x_reloc::proofs::Whole::whole))]
 fn set_all(
     alloc: Global,
     code: &mut [u8],

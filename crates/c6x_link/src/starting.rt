@@ -1,11 +1,11 @@
 ghost use Rattle.std.specs.Prelude.{◌≡◌, ◌<◌, IfSome, length};
 ghost use Rattle.c6x_link.specs.Linked.{entry_of, is_start, is_symbol, start_at};
-ghost use Rattle.c6x_link_entries.specs.Rules.{is_text};
+ghost use Rattle.c6x_symbols.specs.EntryRules.{is_text};
 ghost use Rattle.c6x_symbols.specs.Bindings.{binding_in, bound_at};
 
-use c6x_link_targets::{Link, bound_address};
-use c6x_objects::Region;
-use c6x_symbols::Binding;
+use crate::address::bound_address;
+use crate::link_value::Link;
+use c6x_symbols::{Binding, Region};
 
 /// The address where a process begins: 0 for a library. None exactly where the plan of an executable names no definition
 /// in the text.

@@ -12,11 +12,11 @@ use Rattle.c6x_elf.specs.Names.{name_of}
 use Rattle.c6x_elf.specs.Types.{Symbol, SymbolBinding}
 use Rattle.c6x_elf.specs.declared.file.File.{File}
 use Rattle.c6x_elf.specs.declared.section.Section.{Section}
-use Rattle.c6x_linked.specs.declared.limits.TheConstants.{MOST_ALIGN}
+use Rattle.c6x_layout.specs.declared.file_limits.TheConstants.{MOST_ALIGN}
 use Rattle.c6x_module.specs.Alignment.{is_alignment as is_module_alignment}
-use Rattle.c6x_objects.specs.Parts.{file_parts, part_at, part_of, parts_of}
-use Rattle.c6x_objects.specs.Sections.{is_allocated}
-use Rattle.c6x_objects.specs.declared.part.Part.{Part}
+use Rattle.c6x_symbols.specs.Parts.{file_parts, part_at, part_of, parts_of}
+use Rattle.c6x_symbols.specs.Sections.{is_allocated}
+use Rattle.c6x_symbols.specs.declared.part.Part.{Part}
 use Rattle.c6x_symbols.specs.Binding.{binding_of, bound_to}
 use Rattle.c6x_symbols.specs.Bindings.{bindings_of, bound_name}
 use Rattle.c6x_symbols.specs.Groups.{class_is_common, common_of, common_with, first_where, greatest_size, greatest_value, group_of, has_name, has_size, is_common, mention_in, names_of, of_name}

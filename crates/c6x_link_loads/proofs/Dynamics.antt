@@ -17,22 +17,22 @@ use Rattle.c6x_link.proofs.Inside.{LiesIn}
 use Rattle.c6x_link.proofs.Placed.{has_few_symbols, places_are}
 use Rattle.c6x_link.proofs.SectionsInside.{far_in_data, near_in_data}
 use Rattle.c6x_link.specs.Linked.{parts_of}
-use Rattle.c6x_link_entries.specs.Entries.{broken, dynamic_addend, dynamic_relas, entries_error, error_at, is_dynamic, is_dynamic_kind, rela_of, relas_at}
-use Rattle.c6x_link_entries.specs.Rules.{◌<|>◌, entry_rule, is_fixed, is_inside, is_text, is_word, kind_rule, must, rule_with}
-use Rattle.c6x_link_entries.specs.declared.entry.Entry.{Entry}
-use Rattle.c6x_link_entries.specs.declared.entry.EntryError.{EntryError}
-use Rattle.c6x_link_entries.specs.declared.reference.Reference.{Reference}
-use Rattle.c6x_link_images.specs.Worked.{IsWorkedOut, laying_in}
-use Rattle.c6x_link_targets.specs.Addresses.{address_in}
-use Rattle.c6x_link_targets.specs.LinkEntries.{entry_on, link_entries, link_entry, room_of, section_at, stands_in_text}
-use Rattle.c6x_link_targets.specs.Targets.{target_of}
-use Rattle.c6x_link_targets.specs.Working.{Working}
-use Rattle.c6x_loads.specs.Loads.{IsForLoader}
-use Rattle.c6x_objects.specs.Parts.{part_of}
-use Rattle.c6x_objects.specs.Sections.{zone_of}
-use Rattle.c6x_objects.specs.declared.object_entry.ObjectEntry.{ObjectEntry}
-use Rattle.c6x_objects.specs.declared.zone.Zone.{Zone}
-use Rattle.c6x_objects.specs.declared.zone.Zone.TheVariants.{Far, Near, Text}
+use Rattle.c6x_symbols.specs.LinkEntries.{broken, dynamic_addend, dynamic_relas, entries_error, error_at, is_dynamic, is_dynamic_kind, rela_of, relas_at}
+use Rattle.c6x_symbols.specs.EntryRules.{◌<|>◌, entry_rule, is_fixed, is_inside, is_text, is_word, kind_rule, must, rule_with}
+use Rattle.c6x_symbols.specs.declared.entry.Entry.{Entry}
+use Rattle.c6x_symbols.specs.declared.entry.EntryError.{EntryError}
+use Rattle.c6x_symbols.specs.declared.reference.Reference.{Reference}
+use Rattle.c6x_link.specs.Worked.{IsWorkedOut, laying_in}
+use Rattle.c6x_link.specs.Addresses.{address_in}
+use Rattle.c6x_link.specs.LinkEntries.{entry_on, link_entries, link_entry, room_of, section_at, stands_in_text}
+use Rattle.c6x_link.specs.Targets.{target_of}
+use Rattle.c6x_link.specs.Working.{Working}
+use Rattle.c6x_link_loads.specs.Loads.{IsForLoader}
+use Rattle.c6x_symbols.specs.Parts.{part_of}
+use Rattle.c6x_symbols.specs.Sections.{zone_of}
+use Rattle.c6x_symbols.specs.declared.object_entry.ObjectEntry.{ObjectEntry}
+use Rattle.c6x_symbols.specs.declared.zone.Zone.{Zone}
+use Rattle.c6x_symbols.specs.declared.zone.Zone.TheVariants.{Far, Near, Text}
 use Rattle.c6x_reloc.specs.Table.{row_of}
 use Rattle.c6x_reloc.specs.Value.{moved}
 use Rattle.c6x_reloc.specs.declared.reloc_kind.RelocKind.{RelocKind}

@@ -11,12 +11,12 @@ use Rattle.c6x_elf.specs.Types.{Rela}
 use Rattle.c6x_layout.specs.Dynamics.{is_filled_word}
 use Rattle.c6x_link.proofs.Placed.{has_few_symbols}
 use Rattle.c6x_link.specs.Linked.{parts_of}
-use Rattle.c6x_link_images.specs.Exports.{shared_of}
-use Rattle.c6x_link_images.specs.Words.{rela_on, stub_rela, stub_relas, word_rela, word_relas}
-use Rattle.c6x_link_images.specs.Worked.{IsWorkedOut}
-use Rattle.c6x_link_targets.specs.Targets.{import_symbol, target_of}
-use Rattle.c6x_link_targets.specs.Working.{Working}
-use Rattle.c6x_loads.specs.Loads.{IsForLoader}
+use Rattle.c6x_link.specs.Exports.{shared_of}
+use Rattle.c6x_link.specs.Words.{rela_on, stub_rela, stub_relas, word_rela, word_relas}
+use Rattle.c6x_link.specs.Worked.{IsWorkedOut}
+use Rattle.c6x_link.specs.Targets.{import_symbol, target_of}
+use Rattle.c6x_link.specs.Working.{Working}
+use Rattle.c6x_link_loads.specs.Loads.{IsForLoader}
 use Rattle.c6x_reloc.specs.Table.{row_of}
 use Rattle.c6x_reloc.specs.Value.{less}
 use Rattle.c6x_reloc.specs.declared.reloc_kind.RelocKind.TheVariants.{ABS32, JUMP_SLOT}

@@ -17,16 +17,16 @@ use Rattle.c6x_elf.specs.Types.{SectionClass, Symbol}
 use Rattle.c6x_elf.specs.declared.file.File.{File}
 use Rattle.c6x_elf.specs.declared.section.Section.{Section}
 use Rattle.c6x_layout.specs.Regions.{binding_region, bound_region, class_region, names_at, region_of_section, region_of_symbol, section_region, sections_at, symbol_in, symbol_region, wanted_region, zone_region}
-use Rattle.c6x_link_images.specs.Exports.{export_of, import_of, shared_of}
-use Rattle.c6x_link_targets.specs.Targets.{import_symbol, number_of_bound, symbol_of_region, target_of}
-use Rattle.c6x_link_targets.specs.Working.{Working}
-use Rattle.c6x_objects.specs.Entries.{file_entries}
-use Rattle.c6x_objects.specs.Sections.{is_allocated, zone_of}
-use Rattle.c6x_objects.specs.declared.object_entry.ObjectEntry.{ObjectEntry}
-use Rattle.c6x_objects.specs.declared.region.Region.{Region}
-use Rattle.c6x_objects.specs.declared.region.Region.TheVariants.{Absolute, Data, Import as Elsewhere, Text}
-use Rattle.c6x_objects.specs.declared.zone.Zone.{Zone}
-use Rattle.c6x_objects.specs.declared.zone.Zone.TheVariants.{Far, Near, Text as TextZone}
+use Rattle.c6x_link.specs.Exports.{export_of, import_of, shared_of}
+use Rattle.c6x_link.specs.Targets.{import_symbol, number_of_bound, symbol_of_region, target_of}
+use Rattle.c6x_link.specs.Working.{Working}
+use Rattle.c6x_symbols.specs.Entries.{file_entries}
+use Rattle.c6x_symbols.specs.Sections.{is_allocated, zone_of}
+use Rattle.c6x_symbols.specs.declared.object_entry.ObjectEntry.{ObjectEntry}
+use Rattle.c6x_symbols.specs.declared.region.Region.{Region}
+use Rattle.c6x_symbols.specs.declared.region.Region.TheVariants.{Absolute, Data, Import as Elsewhere, Text}
+use Rattle.c6x_symbols.specs.declared.zone.Zone.{Zone}
+use Rattle.c6x_symbols.specs.declared.zone.Zone.TheVariants.{Far, Near, Text as TextZone}
 use Rattle.c6x_symbols.specs.Bindings.{BoundName, binding_in, bound_at, exports_of, imports_of, is_import, is_imported, name_in, numbers_where}
 use Rattle.c6x_symbols.specs.declared.binding.Binding.{Binding}
 use Rattle.c6x_symbols.specs.declared.binding.Binding.TheVariants.{Common, Import, Strong, Table, Weak}

@@ -7,9 +7,9 @@ use Rattle.c6x_layout.proofs.Bounds.{bounds}
 use Rattle.c6x_layout.specs.Layouts.{Laying, data_align, data_end, layout_of, table_at, text_align, text_end, words_at, words_end}
 use Rattle.c6x_layout.specs.declared.layout.Layout.{Layout}
 use Rattle.c6x_layout.specs.declared.limits.TheConstants.{PAGE}
-use Rattle.c6x_link_images.proofs.ImageParts.{first_none, later_none, must_true}
-use Rattle.c6x_link_images.specs.Worked.{IsWorkedOut, laying_in}
-use Rattle.c6x_link_targets.specs.Working.{Working}
+use Rattle.c6x_link.proofs.ImageParts.{first_none, later_none, must_true}
+use Rattle.c6x_link.specs.Worked.{IsWorkedOut, laying_in}
+use Rattle.c6x_link.specs.Working.{Working}
 use Rattle.c6x_plan.specs.declared.limits.TheConstants.{MOST_SLOTS}
 use Rattle.c6x_symbols.specs.Rules.{refusal}
 use Rattle.c6x_symbols.specs.declared.link_rule.LinkRule.TheVariants.{BadIndex, BadSize}

@@ -1,3 +1,9 @@
+pub mod Entries
+pub mod Values
+pub mod Tables
+pub mod Names
+pub mod Loads
+pub mod WrittenFile
 pub mod Aligned
 pub mod Laid
 pub mod Sizes

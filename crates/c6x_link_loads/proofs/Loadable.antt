@@ -8,16 +8,16 @@ use Rattle.c6x_elf.specs.declared.file.File.{File}
 use Rattle.c6x_layout.specs.Layouts.{Laying, layout_refusal}
 use Rattle.c6x_link.proofs.Placed.{aligned_by, worked_by}
 use Rattle.c6x_link.specs.Linked.{entry_of, entry_refusal, file_refusal, is_start, is_symbol, laid_refusal, link_refusal, of_entry, or_zero, parts_of, start_at, start_named, start_of}
-use Rattle.c6x_link_entries.specs.Entries.{dynamic_relas, entries_error}
-use Rattle.c6x_link_entries.specs.declared.entry.EntryError.{EntryError}
-use Rattle.c6x_link_images.proofs.ImageParts.{first_none, later_none}
-use Rattle.c6x_link_images.specs.Words.{word_relas}
-use Rattle.c6x_link_images.specs.Worked.{IsWorkedOut}
+use Rattle.c6x_symbols.specs.LinkEntries.{dynamic_relas, entries_error}
+use Rattle.c6x_symbols.specs.declared.entry.EntryError.{EntryError}
+use Rattle.c6x_link.proofs.ImageParts.{first_none, later_none}
+use Rattle.c6x_link.specs.Words.{word_relas}
+use Rattle.c6x_link.specs.Worked.{IsWorkedOut}
 use Rattle.c6x_link_loads.specs.Linkable.{AreLinkable, IsOfBytes}
-use Rattle.c6x_link_targets.specs.LinkEntries.{link_entries}
-use Rattle.c6x_link_targets.specs.Working.{Working, laying_of, worked_out, working_of}
-use Rattle.c6x_linked.specs.Sizes.{AreSized}
-use Rattle.c6x_loads.specs.Loads.{AreLoadable, IsForLoader}
+use Rattle.c6x_link.specs.LinkEntries.{link_entries}
+use Rattle.c6x_link.specs.Working.{Working, laying_of, worked_out, working_of}
+use Rattle.c6x_layout.specs.FileSizes.{AreSized}
+use Rattle.c6x_link_loads.specs.Loads.{AreLoadable, IsForLoader}
 use Rattle.c6x_module.specs.Alignment.{is_alignment}
 use Rattle.c6x_plan.specs.declared.link_plan.LinkPlan.{LinkPlan}
 use Rattle.c6x_symbols.specs.Bindings.{binding_in, bindings_of, bound_at, name_in, names_refusal}

@@ -8,15 +8,15 @@ use Rattle.c6x_layout.specs.Layouts.{Laying, counts_of, text_end}
 use Rattle.c6x_link.proofs.Filled.{filled_relas}
 use Rattle.c6x_link.proofs.PartsSized.{counts_same, parts_sized_by}
 use Rattle.c6x_link.specs.Linked.{parts_of}
-use Rattle.c6x_link_images.proofs.ImageParts.{data_length, text_length}
-use Rattle.c6x_link_images.specs.Worked.{IsWorkedOut, laying_in}
+use Rattle.c6x_link.proofs.ImageParts.{data_length, text_length}
+use Rattle.c6x_link.specs.Worked.{IsWorkedOut, laying_in}
 use Rattle.c6x_link_loads.proofs.Laid.{is_laid}
-use Rattle.c6x_link_targets.specs.Working.{Working}
-use Rattle.c6x_linked.specs.Places.{text_size}
-use Rattle.c6x_linked.specs.Sizes.{AreSized}
-use Rattle.c6x_linked.specs.Tables.{counts_of as counts_in}
-use Rattle.c6x_linked.specs.declared.counts.Counts.{Counts}
-use Rattle.c6x_linked.specs.declared.limits.TheConstants.{TEXT_START}
+use Rattle.c6x_link.specs.Working.{Working}
+use Rattle.c6x_layout.specs.FilePlaces.{text_size}
+use Rattle.c6x_layout.specs.FileSizes.{AreSized}
+use Rattle.c6x_layout.specs.Tables.{counts_of as counts_in}
+use Rattle.c6x_layout.specs.declared.counts.Counts.{Counts}
+use Rattle.c6x_layout.specs.declared.file_limits.TheConstants.{TEXT_START}
 use Rattle.c6x_symbols.specs.Bindings.{bindings_of}
 use Rattle.std.specs.Prelude.{None}
 

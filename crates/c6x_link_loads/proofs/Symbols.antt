@@ -16,21 +16,21 @@ use Rattle.c6x_elf.specs.TableEntries.{symbol_at, symbol_entries}
 use Rattle.c6x_elf.specs.Types.{SectionClass, Symbol, SymbolBinding}
 use Rattle.c6x_elf.specs.declared.file.File.{File}
 use Rattle.c6x_elf.specs.declared.section.Section.{Section}
-use Rattle.c6x_fields.specs.Fields.{AreBytes}
+use Rattle.c6x_reloc.specs.FieldBits.{AreBytes}
 use Rattle.c6x_layout.proofs.Bounds.{bounds}
 use Rattle.c6x_layout.proofs.Sized.{ordered}
 use Rattle.c6x_layout.specs.Layouts.{commons_of, data_end, far_zeros_end, layout_of, near_end, near_zeros_end}
 use Rattle.c6x_layout.specs.Places.{CommonRoom, added, address_or, common_room, commons_end, commons_from, end_or, start_of}
 use Rattle.c6x_layout.specs.Regions.{bound_region, moves, section_region, sections_at, sections_in, symbol_in}
 use Rattle.c6x_layout.specs.declared.layout.Layout.{Layout}
-use Rattle.c6x_link_images.specs.Exports.{export_of, import_of, section_number, shared_of, size_of, source_symbol, symbol_at_source}
-use Rattle.c6x_link_images.specs.Worked.{IsWorkedOut, laying_in}
+use Rattle.c6x_link.specs.Exports.{export_of, import_of, section_number, shared_of, size_of, source_symbol, symbol_at_source}
+use Rattle.c6x_link.specs.Worked.{IsWorkedOut, laying_in}
 use Rattle.c6x_link_loads.specs.Linkable.{HasBytes, IsOfBytes}
-use Rattle.c6x_link_targets.specs.Addresses.{address_in, address_of_symbol, binding_address, bound_address, class_address, section_address, symbol_address}
-use Rattle.c6x_link_targets.specs.Working.{Working}
-use Rattle.c6x_loads.specs.Loads.{IsShared}
-use Rattle.c6x_objects.specs.declared.region.Region.{Region}
-use Rattle.c6x_objects.specs.declared.region.Region.TheVariants.{Absolute, Data, Import as Elsewhere, Text}
+use Rattle.c6x_link.specs.Addresses.{address_in, address_of_symbol, binding_address, bound_address, class_address, section_address, symbol_address}
+use Rattle.c6x_link.specs.Working.{Working}
+use Rattle.c6x_link_loads.specs.Loads.{IsShared}
+use Rattle.c6x_symbols.specs.declared.region.Region.{Region}
+use Rattle.c6x_symbols.specs.declared.region.Region.TheVariants.{Absolute, Data, Import as Elsewhere, Text}
 use Rattle.c6x_symbols.specs.Bindings.{BoundName, binding_in, bindings_of, bound_at, bound_name, exports_of, imports_of, no_name, source_in}
 use Rattle.c6x_symbols.specs.Groups.{is_other, names_of}
 use Rattle.c6x_symbols.specs.Mentions.{Named, mention_by, mention_of, mentions_along, mentions_from, mentions_of, object_mentions, strings_of, under_name}

@@ -6,10 +6,10 @@ use Rattle.c6x_link.proofs.FieldsHeld.{linked_file_is, linked_rule}
 use Rattle.c6x_link.specs.Linked.{linked, linked_of, parts_of}
 use Rattle.c6x_link_loads.proofs.Loadable.{loadable}
 use Rattle.c6x_link_loads.specs.Linkable.{AreLinkable}
-use Rattle.c6x_link_targets.specs.Working.{working_of}
-use Rattle.c6x_linked.specs.File.{linked_file}
-use Rattle.c6x_loads.proofs.Written.{written_load}
-use Rattle.c6x_loads.specs.Loads.{ReadsAs}
+use Rattle.c6x_link.specs.Working.{working_of}
+use Rattle.c6x_layout.specs.File.{linked_file}
+use Rattle.c6x_link_loads.proofs.WrittenFile.{written_load}
+use Rattle.c6x_link_loads.specs.Loads.{ReadsAs}
 use Rattle.c6x_plan.specs.declared.link_plan.LinkPlan.{LinkPlan}
 
 same_file : (objects : List File) (plan : LinkPlan) → linked_of objects plan ≡ linked_file (parts_of (working_of objects plan))

@@ -3,8 +3,8 @@ use Rattle.std.specs.Prelude.{All, false}
 use Rattle.c6x_elf.specs.Names.{IsName}
 use Rattle.c6x_elf.specs.declared.file.File.{File}
 use Rattle.c6x_elf.specs.declared.section.Section.{Section}
-use Rattle.c6x_fields.specs.Fields.{AreBytes}
-use Rattle.c6x_objects.specs.Objects.{IsObject}
+use Rattle.c6x_reloc.specs.FieldBits.{AreBytes}
+use Rattle.c6x_symbols.specs.Objects.{IsObject}
 use Rattle.c6x_plan.specs.declared.link_plan.LinkPlan.{LinkPlan}
 use Rattle.std.specs.Prelude.{List}
 

@@ -3,8 +3,8 @@ ghost use Rattle.c6x_elf.specs.Writing.{written};
 ghost use Rattle.c6x_elf.specs.declared.file.File.{File};
 ghost use Rattle.c6x_link.specs.Linked.{link_refusal, linked, parts_of};
 ghost use Rattle.c6x_link_loads.specs.Linkable.{AreLinkable};
-ghost use Rattle.c6x_link_targets.specs.Working.{working_of};
-ghost use Rattle.c6x_loads.specs.Loads.{AreLoadable, ReadsAs};
+ghost use Rattle.c6x_link.specs.Working.{working_of};
+ghost use Rattle.c6x_link_loads.specs.Loads.{AreLoadable, ReadsAs};
 ghost use Rattle.c6x_plan.specs.declared.link_plan.LinkPlan.{LinkPlan};
 
 /// What a link works out, where no rule is broken, is loadable.

@@ -8,19 +8,19 @@ use Rattle.c6x_access.specs.declared.area.Area.{Area}
 use Rattle.c6x_access.specs.declared.right.Right.{Right}
 use Rattle.c6x_access.specs.declared.right.Right.TheVariants.{Write}
 use Rattle.c6x_access.proofs.Bytes.{allowed_own}
-use Rattle.c6x_search.specs.Search.{has}
+use Rattle.c6x_base.specs.Search.{has}
 use Rattle.c6x_module.specs.Valid.{IsValid}
 use Rattle.c6x_module.specs.declared.module.Module.{Module}
-use Rattle.c6x_bind.specs.declared.bound_process.BoundProcess.{BoundProcess}
-use Rattle.c6x_bind.specs.declared.target.Target.{Target}
-use Rattle.c6x_seats.specs.declared.seat.Seat.{Seat}
-use Rattle.c6x_fill.specs.Values.{filled, slot_word, target_address, text_at}
-use Rattle.c6x_fill.proofs.Ranges.{length_filled}
+use Rattle.c6x_place.specs.declared.bound_process.BoundProcess.{BoundProcess}
+use Rattle.c6x_place.specs.declared.target.Target.{Target}
+use Rattle.c6x_place.specs.declared.seat.Seat.{Seat}
+use Rattle.c6x_load.specs.Values.{filled, slot_word, target_address, text_at}
+use Rattle.c6x_load.proofs.Ranges.{length_filled}
 use Rattle.c6x_place.specs.Plans.{AreWanted, is_used, used_from}
-use Rattle.c6x_load_plan.specs.Loaded.{IsSeated, range_bytes, range_parts, seat_parts, seat_ranges, stack_part, text_parts}
-use Rattle.c6x_load_plan.proofs.Placed.{valid_at}
-use Rattle.c6x_load_plan.proofs.Walks.{image_length, length_zeros}
-use Rattle.c6x_load_process.specs.Areas.{range_areas, range_size, seat_areas, text_areas, text_size, writable}
+use Rattle.c6x_load.specs.Loaded.{IsSeated, range_bytes, range_parts, seat_parts, seat_ranges, stack_part, text_parts}
+use Rattle.c6x_load.proofs.Placed.{valid_at}
+use Rattle.c6x_load.proofs.PlanWalks.{image_length, length_zeros}
+use Rattle.c6x_load.specs.Areas.{range_areas, range_size, seat_areas, text_areas, text_size, writable}
 use Rattle.c6x_load.proofs.PartBytes.{either, in_back, in_front, not_both, or_left, or_right}
 
 -- areas behind areas

@@ -4,20 +4,20 @@ use Rattle.std.specs.Prelude.{All, Option}
 use Rattle.c6x_spec.specs.Memory.{Memory}
 use Rattle.c6x_spec.specs.Parts.{AreApart, AreOn, HoldsAll, HoldsParts, Part}
 use Rattle.c6x_exec.specs.declared.process.Process.{Process}
-use Rattle.c6x_processes.specs.Together.{AllLieOn, AllStand, AreApart as AreAllApart}
+use Rattle.c6x_sched.specs.Together.{AllLieOn, AllStand, AreApart as AreAllApart}
 use Rattle.c6x_module.specs.Valid.{IsValid}
 use Rattle.c6x_module.specs.declared.module.Module.{Module}
 use Rattle.c6x_plan.specs.Limits.{IsProcess}
 use Rattle.c6x_plan.specs.declared.process_plan.ProcessPlan.{ProcessPlan}
-use Rattle.c6x_bind.specs.declared.bound_process.BoundProcess.{BoundProcess}
-use Rattle.c6x_seats.specs.declared.placement.Placement.{Placement}
-use Rattle.c6x_seats.specs.declared.seat.Seat.{Seat}
+use Rattle.c6x_place.specs.declared.bound_process.BoundProcess.{BoundProcess}
+use Rattle.c6x_place.specs.declared.placement.Placement.{Placement}
+use Rattle.c6x_place.specs.declared.seat.Seat.{Seat}
 use Rattle.c6x_place.specs.Plans.{IsKnown, IsPlacement, bound_plans, is_used, used_from}
 use Rattle.c6x_place.proofs.Walks.{length_used}
-use Rattle.c6x_load_plan.specs.Loaded.{plan_parts, text_parts}
-use Rattle.c6x_load_plan.proofs.Placed.{stands}
-use Rattle.c6x_load_process.specs.Laws.{AreAllBelow}
-use Rattle.c6x_load_process.proofs.Below.{placed_below}
+use Rattle.c6x_load.specs.Loaded.{plan_parts, text_parts}
+use Rattle.c6x_load.proofs.Placed.{stands}
+use Rattle.c6x_load.specs.ProcessLaws.{AreAllBelow}
+use Rattle.c6x_load.proofs.Below.{placed_below}
 use Rattle.c6x_load.specs.Made.{AreFresh, AreMade}
 use Rattle.c6x_load.specs.Starts.{origins, origins_of, start_byte}
 use Rattle.c6x_load.proofs.Covered.{text_in, used_at}

@@ -1,3 +1,15 @@
+pub mod FillWalks
+pub mod Tables
+pub mod Ranges
+pub mod Images
+pub mod ReadBack
+pub mod PlanWalks
+pub mod SeatWalks
+pub mod Placed
+pub mod Backs
+pub mod ProcessWalks
+pub mod ProcessStarts
+pub mod Below
 pub mod PartBytes
 pub mod Covered
 pub mod Origins

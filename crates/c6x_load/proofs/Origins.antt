@@ -11,15 +11,15 @@ use Rattle.c6x_machine.specs.Origin.{Origin}
 use Rattle.c6x_exec.specs.Process.{StandsFor}
 use Rattle.c6x_exec.specs.Stands.{HoldsBytes}
 use Rattle.c6x_exec.specs.declared.process.Process.{Process}
-use Rattle.c6x_processes.specs.Together.{AllLieOn, AllStand, AreApart as AreAllApart}
+use Rattle.c6x_sched.specs.Together.{AllLieOn, AllStand, AreApart as AreAllApart}
 use Rattle.c6x_module.specs.Valid.{IsValid}
 use Rattle.c6x_module.specs.declared.module.Module.{Module}
 use Rattle.c6x_plan.specs.declared.process_plan.ProcessPlan.{ProcessPlan}
-use Rattle.c6x_bind.specs.declared.bound_process.BoundProcess.{BoundProcess}
-use Rattle.c6x_seats.specs.declared.seat.Seat.{Seat}
+use Rattle.c6x_place.specs.declared.bound_process.BoundProcess.{BoundProcess}
+use Rattle.c6x_place.specs.declared.seat.Seat.{Seat}
 use Rattle.c6x_place.specs.Plans.{is_used}
-use Rattle.c6x_search.specs.Search.{has}
-use Rattle.c6x_load_plan.specs.Loaded.{AreAllSeated, seat_parts, seats_parts, text_parts}
+use Rattle.c6x_base.specs.Search.{has}
+use Rattle.c6x_load.specs.Loaded.{AreAllSeated, seat_parts, seats_parts, text_parts}
 use Rattle.c6x_load.specs.Made.{AreFresh, AreMade, IsMade}
 use Rattle.c6x_load.specs.Starts.{origin_or, origins_of, process_origin, start_byte}
 use Rattle.c6x_load.proofs.PartBytes.{apart_back, apart_lists, held_byte, in_back, in_front, in_joined, joined, joined_apart, not_both, not_when, on_byte, or_left, or_right}

@@ -6,9 +6,9 @@ use Rattle.c6x_machine.specs.Origin.{Origin}
 use Rattle.c6x_exec.specs.declared.process.Process.{Process}
 use Rattle.c6x_module.specs.declared.module.Module.{Module}
 use Rattle.c6x_plan.specs.declared.process_plan.ProcessPlan.{ProcessPlan}
-use Rattle.c6x_bind.specs.declared.bound_process.BoundProcess.{BoundProcess}
-use Rattle.c6x_seats.specs.declared.seat.Seat.{Seat}
-use Rattle.c6x_load_process.specs.Laws.{AreAllBelow, IsBelow}
+use Rattle.c6x_place.specs.declared.bound_process.BoundProcess.{BoundProcess}
+use Rattle.c6x_place.specs.declared.seat.Seat.{Seat}
+use Rattle.c6x_load.specs.ProcessLaws.{AreAllBelow, IsBelow}
 use Rattle.c6x_load.specs.Made.{AreMade, IsMade}
 use Rattle.c6x_load.specs.Starts.{origins_of, process_origin}
 

@@ -1,2 +1,9 @@
+pub mod Values
+pub mod FillLaws
+pub mod Reads
+pub mod Loaded
+pub mod ReadBack
+pub mod Areas
+pub mod ProcessLaws
 pub mod Starts
 pub mod Made

@@ -6,11 +6,11 @@ use Rattle.c6x_access.specs.Rights.{is_inside}
 use Rattle.c6x_machine.specs.Origin.{Origin, origin_of}
 use Rattle.c6x_module.specs.declared.module.Module.{Module}
 use Rattle.c6x_plan.specs.declared.process_plan.ProcessPlan.{ProcessPlan}
-use Rattle.c6x_bind.specs.declared.bound_process.BoundProcess.{BoundProcess}
-use Rattle.c6x_seats.specs.declared.placement.Placement.{Placement}
-use Rattle.c6x_seats.specs.declared.seat.Seat.{Seat}
-use Rattle.c6x_load_plan.specs.Loaded.{plan_parts, start_of}
-use Rattle.c6x_load_process.specs.Areas.{seat_areas}
+use Rattle.c6x_place.specs.declared.bound_process.BoundProcess.{BoundProcess}
+use Rattle.c6x_place.specs.declared.placement.Placement.{Placement}
+use Rattle.c6x_place.specs.declared.seat.Seat.{Seat}
+use Rattle.c6x_load.specs.Loaded.{plan_parts, start_of}
+use Rattle.c6x_load.specs.Areas.{seat_areas}
 
 -- The byte that a part has at an address; 0 where none has one.
 abbrev pub start_byte : List Part → ℕ → ℕ

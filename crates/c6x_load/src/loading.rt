@@ -2,20 +2,19 @@ ghost use Rattle.std.specs.Prelude.{◌≡◌, ◌+◌, ◌≤◌, ℕ, [], All,
 ghost use Rattle.c6x_spec.specs.Parts.{HoldsParts, filled_with};
 ghost use Rattle.c6x_plan.specs.Limits.{IsProcess};
 ghost use Rattle.c6x_place.specs.Plans.{IsPlacement, bound_plans};
-ghost use Rattle.c6x_load_plan.specs.Loaded.{plan_parts};
-ghost use Rattle.c6x_load_plan.specs.ReadBack.{AreSeatsReadBack};
-ghost use Rattle.c6x_processes.specs.Together.{AllLieOn, AllStand, AreApart};
+ghost use Rattle.c6x_load.specs.Loaded.{plan_parts};
+ghost use Rattle.c6x_load.specs.ReadBack.{AreSeatsReadBack};
+ghost use Rattle.c6x_sched.specs.Together.{AllLieOn, AllStand, AreApart};
 ghost use Rattle.c6x_load.specs.Made.{AreFresh};
 ghost use Rattle.c6x_load.specs.Starts.{origins};
 
+use crate::plan_loading::load_parts;
 use crate::processes::make_processes;
-use c6x_bind::Bound;
 use c6x_board::Board;
-use c6x_load_plan::load_parts;
 use c6x_modules::Modules;
+use c6x_place::{Bound, Placement};
 use c6x_plan::ProcessPlan;
-use c6x_processes::Loaded;
-use c6x_seats::Placement;
+use c6x_sched::Loaded;
 use std::alloc::{AllocError, Global};
 
 /// Loads the processes of a plan: writes their start bytes, and gives the processes before their first cycle, with an

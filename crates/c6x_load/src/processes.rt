@@ -1,15 +1,14 @@
 ghost use Rattle.std.specs.Prelude.{◌≡◌, ℕ, All, IfOk, length};
 ghost use Rattle.c6x_plan.specs.Limits.{IsProcess};
-ghost use Rattle.c6x_load_process.specs.Laws.{AreAllBelow};
+ghost use Rattle.c6x_load.specs.ProcessLaws.{AreAllBelow};
 ghost use Rattle.c6x_load.specs.Made.{AreMade};
 ghost use Rattle.c6x_load.specs.Starts.{origins_of};
 
-use c6x_bind::BoundProcess;
+use crate::make::make_process;
 use c6x_exec::Process;
-use c6x_load_process::make_process;
 use c6x_modules::Modules;
+use c6x_place::{BoundProcess, Seat};
 use c6x_plan::ProcessPlan;
-use c6x_seats::Seat;
 use std::alloc::{AllocError, Global};
 
 /// The processes of a plan before their first cycle, in the order of the plan.

@@ -3,8 +3,8 @@ use Rattle.std.proofs.Common.{◌≡◌, ◌≢◌, ℕ, zero, suc, ◌+◌, ◌
 use Rattle.std.specs.Prelude.{◌==◌, slice_index, if◌then◌else◌}
 use Rattle.std.proofs.lemmas.Bool.Decides.{nat_tests}
 use Rattle.std.proofs.lemmas.Option.{slice_get_within}
-use Rattle.c6x_instr.specs.declared.instr.Instr.{Instr}
-use Rattle.c6x_instr.specs.Spelling.{Spells}
+use Rattle.c6x_encoding.specs.declared.instr.Instr.{Instr}
+use Rattle.c6x_encoding.specs.Spelling.{Spells}
 use Rattle.c6x_packet.specs.Packets.{AreSpelled, IsChain, IsPacketOf, split_of}
 use Rattle.c6x_packet.proofs.Relation.{at_spelled, split_ok}
 use Rattle.c6x_machine.specs.Laws.{IsPacketAt}

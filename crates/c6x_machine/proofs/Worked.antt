@@ -10,8 +10,8 @@ use Rattle.c6x_machine.specs.Packet.{low_bytes, longest, words_by, with_packet, 
 use Rattle.c6x_machine.specs.declared.end.End.{End}
 use Rattle.c6x_machine.specs.declared.end.End.TheVariants.{Exit, Fault, Limit}
 use Rattle.c6x_machine.specs.declared.fault_kind.FaultKind.TheVariants.{TwoBranches, Fetch, BadWord, BadPacket, BadRead, BadWrite, Misaligned, TwoStores, TwoWrites}
-use Rattle.c6x_instr.specs.Decoded.{decoded}
-use Rattle.c6x_instr.specs.Rows.{effects_of, only_wait}
+use Rattle.c6x_encoding.specs.Decoded.{decoded}
+use Rattle.c6x_encoding.specs.Rows.{effects_of, only_wait}
 
 -- words of code, an argument and a limit; and the end, the cycles and the output that they come to
 record Program : Type 0 where

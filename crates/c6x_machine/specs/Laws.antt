@@ -1,7 +1,7 @@
 -- The definitions of the machine, said once more in other words.
 use Rattle.std.specs.Prelude.{◌≡◌, ℕ, ◌+◌, ◌*◌, ◌%◌, ◌^◌, ◌<◌, ◌≤◌, ◌⊎◌, List, length, slice_get, Some, None, Ok, Bool, true}
-use Rattle.c6x_instr.specs.declared.instr.Instr.{Instr}
-use Rattle.c6x_instr.specs.Spelling.{Spells}
+use Rattle.c6x_encoding.specs.declared.instr.Instr.{Instr}
+use Rattle.c6x_encoding.specs.Spelling.{Spells}
 use Rattle.c6x_packet.specs.Packets.{IsPacket, split_of}
 use Rattle.c6x_machine.specs.History.{Effect, write_at, register_at, number_at}
 use Rattle.c6x_machine.specs.Machine.{alone}

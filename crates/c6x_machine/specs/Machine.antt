@@ -1,7 +1,7 @@
 -- The machine of one process: its cycles one after another, from an origin.
 use Rattle.std.specs.Prelude.{ℕ, zero, suc, ◌+◌, ◌-◌, ◌*◌, ◌%◌, ◌==◌, List, ◌∷◌, length, Option, Some, None, Result, Ok, Err, is_some, nat_le, if◌then◌else◌}
-use Rattle.c6x_instr.specs.declared.instr.Instr.{Instr}
-use Rattle.c6x_instr.specs.declared.effect.Effects.{Effects}
+use Rattle.c6x_encoding.specs.declared.instr.Instr.{Instr}
+use Rattle.c6x_encoding.specs.declared.effect.Effects.{Effects}
 use Rattle.c6x_packet.specs.Packets.{split_of}
 use Rattle.c6x_packet.specs.declared.error.PacketError.{PacketError}
 use Rattle.c6x_packet.specs.declared.error.PacketError.TheVariants.{BadWord as BadWordAt, TooLong, UnitTwice, SameSide, CrossTwice}

@@ -1,13 +1,13 @@
 -- The packet at an address, the effects of its instructions, and the faults in their order.
 use Rattle.std.specs.Prelude.{◌≡◌, ◌-◌, ◌<◌, ◌≤◌, length, slice_index, ℕ, zero, suc, ◌+◌, ◌/◌, ◌%◌, ◌^◌, ◌==◌, List, [], ◌∷◌, ◌++◌, fold, flat_map, count_by, Option, Some, None, Result, Ok, Err, if◌then◌else◌, nat_eq, nat_lt, max, is_some, ◌&&◌, ◌||◌, not, Bool, true, false}
-use Rattle.c6x_instr.specs.declared.instr.Instr.{Instr}
-use Rattle.c6x_instr.specs.declared.effect.Effects.{Effects}
-use Rattle.c6x_instr.specs.declared.write.Write.{Write}
-use Rattle.c6x_instr.specs.declared.mem_op.MemOp.{MemOp}
-use Rattle.c6x_instr.specs.declared.job.Job.{Job}
-use Rattle.c6x_instr.specs.declared.job.Job.TheVariants.{Load, Store}
-use Rattle.c6x_instr.specs.Registers.{place_of}
-use Rattle.c6x_instr.specs.Rows.{effects_of, write_of_access}
+use Rattle.c6x_encoding.specs.declared.instr.Instr.{Instr}
+use Rattle.c6x_encoding.specs.declared.effect.Effects.{Effects}
+use Rattle.c6x_encoding.specs.declared.write.Write.{Write}
+use Rattle.c6x_encoding.specs.declared.mem_op.MemOp.{MemOp}
+use Rattle.c6x_encoding.specs.declared.job.Job.{Job}
+use Rattle.c6x_encoding.specs.declared.job.Job.TheVariants.{Load, Store}
+use Rattle.c6x_encoding.specs.Registers.{place_of}
+use Rattle.c6x_encoding.specs.Rows.{effects_of, write_of_access}
 use Rattle.c6x_access.specs.declared.area.Area.{Area}
 use Rattle.c6x_access.specs.declared.right.Right.TheVariants.{Read, Write as MayWrite, Run}
 use Rattle.c6x_access.specs.Rights.{may_access}

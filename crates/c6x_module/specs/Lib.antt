@@ -1,3 +1,10 @@
 pub mod Alignment
 pub mod Valid
 pub mod Lookups
+pub mod Refusals
+pub mod Entries
+pub mod Ranges
+pub mod Shape
+pub mod Tables
+pub mod Fields
+pub mod Modules

@@ -1,13 +1,13 @@
 -- What a look-up by name finds in a module (gABI chapter 4, "Symbol Table"; SPRAB89, "Dynamic Linking").
 use Rattle.std.specs.Prelude.{ℕ, ◌+◌, ◌&&◌, ◌||◌, not, Bool, true, false, List, [], ◌∷◌, slice_get, Option, None, Some, if◌then◌else◌}
 use Rattle.std.specs.Str.{bytes_eq}
-use Rattle.c6x_elf_entries.specs.Attributes.{info_binding, other_visibility, section_class}
-use Rattle.c6x_elf_entries.specs.declared.section_class.SectionClass.{SectionClass}
-use Rattle.c6x_elf_entries.specs.declared.section_class.SectionClass.TheVariants.{Undefined, Section, Absolute, Common, NearCommon}
-use Rattle.c6x_elf_entries.specs.declared.symbol_binding.SymbolBinding.{SymbolBinding}
-use Rattle.c6x_elf_entries.specs.declared.symbol_binding.SymbolBinding.TheVariants.{Local, Global, Weak}
-use Rattle.c6x_elf_entries.specs.declared.visibility.Visibility.{Visibility}
-use Rattle.c6x_elf_entries.specs.declared.visibility.Visibility.TheVariants.{Internal, Hidden, Protected, Default}
+use Rattle.c6x_elf_headers.specs.Attributes.{info_binding, other_visibility, section_class}
+use Rattle.c6x_elf_headers.specs.declared.section_class.SectionClass.{SectionClass}
+use Rattle.c6x_elf_headers.specs.declared.section_class.SectionClass.TheVariants.{Undefined, Section, Absolute, Common, NearCommon}
+use Rattle.c6x_elf_headers.specs.declared.symbol_binding.SymbolBinding.{SymbolBinding}
+use Rattle.c6x_elf_headers.specs.declared.symbol_binding.SymbolBinding.TheVariants.{Local, Global, Weak}
+use Rattle.c6x_elf_headers.specs.declared.visibility.Visibility.{Visibility}
+use Rattle.c6x_elf_headers.specs.declared.visibility.Visibility.TheVariants.{Internal, Hidden, Protected, Default}
 use Rattle.c6x_module.specs.declared.symbol.DynSymbol.{DynSymbol}
 use Rattle.c6x_module.specs.declared.module.Module.{Module}
 

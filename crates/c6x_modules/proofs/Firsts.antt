@@ -3,8 +3,8 @@ use Rattle.std.specs.Prelude.{Option, None, Some, Ok, IsOk, IsSome, if◌then◌
 use Rattle.std.specs.List.{count_by, list_all}
 use Rattle.c6x_elf.specs.declared.segment.Segment.{Segment}
 use Rattle.c6x_module.specs.declared.module_rule.ModuleRule.TheVariants.{Segments}
-use Rattle.c6x_module_rules.specs.Ranges.{both_apart, first_where, fits_memory, is_load, is_range, is_text, ranges_in, ranges_of, share_none}
-use Rattle.c6x_module_rules.specs.Refusals.{found}
+use Rattle.c6x_module.specs.Ranges.{both_apart, first_where, fits_memory, is_load, is_range, is_text, ranges_in, ranges_of, share_none}
+use Rattle.c6x_module.specs.Refusals.{found}
 use Rattle.c6x_modules.specs.Surveyed.{or_later}
 
 -- the first of a list with one segment more

@@ -1,3 +1,4 @@
+pub mod Seen
 pub mod Owned
 pub mod Surveyed
 pub mod Indexed

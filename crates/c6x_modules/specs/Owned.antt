@@ -1,7 +1,7 @@
 use Rattle.std.specs.Prelude.{◌≢◌, ℕ, ◌≤◌, List, [], ◌∷◌, ◌++◌, length, All, AllPairs, Option, None, Some, Result, Ok, Err}
 use Rattle.c6x_module.specs.Valid.{IsValid}
 use Rattle.c6x_module.specs.declared.module.Module.{Module}
-use Rattle.c6x_module_rules.specs.Refusals.{Refusal}
+use Rattle.c6x_module.specs.Refusals.{Refusal}
 use Rattle.c6x_modules.specs.declared.modules.TheConstants.{MOST_OWNED_MODULES}
 
 -- What the modules of one owner keep: each is valid, no two have one name, and they are not too many.

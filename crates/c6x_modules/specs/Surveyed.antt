@@ -4,8 +4,8 @@ use Rattle.c6x_elf.specs.declared.segment.Segment.{Segment}
 use Rattle.c6x_module.specs.declared.module.Module.{Module}
 use Rattle.c6x_module.specs.declared.module_error.ModuleError.{ModuleError}
 use Rattle.c6x_module.specs.declared.module_error.ModuleError.TheVariants.{Rule, NoMemory}
-use Rattle.c6x_module_rules.specs.Ranges.{ranges_in}
-use Rattle.c6x_module_rules.specs.Refusals.{Refusal}
+use Rattle.c6x_module.specs.Ranges.{ranges_in}
+use Rattle.c6x_module.specs.Refusals.{Refusal}
 use Rattle.c6x_modules.specs.declared.survey.Survey.{Survey}
 
 -- The module of a file of which all but the segments was read.

@@ -35,8 +35,8 @@ impl Modules {
     ghost use Rattle.c6x_module.specs.Lookups.{export_from, symbols_of};
     ghost use Rattle.c6x_module.specs.Valid.{IsValid};
     ghost use Rattle.c6x_base.specs.declared.limits.TheConstants.{MOST_SEGMENTS as most_segments};
-    ghost use Rattle.c6x_module_rules.specs.Modules.{module_in};
-    ghost use Rattle.c6x_module_rules.specs.Refusals.{Passes};
+    ghost use Rattle.c6x_module.specs.Modules.{module_in};
+    ghost use Rattle.c6x_module.specs.Refusals.{Passes};
     ghost use Rattle.c6x_module.specs.declared.module_error.ModuleError.TheVariants.{NoMemory};
     ghost use Rattle.c6x_modules.specs.Indexed.{IsIndex};
     ghost use Rattle.c6x_modules.specs.Owned.{AreModules, IsNew, refusal_of, with_module};

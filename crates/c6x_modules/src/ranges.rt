@@ -1,9 +1,9 @@
 ghost use Rattle.std.specs.Prelude.{◌≡◌, IsOk, Ok, Some, if◌then◌else◌};
 ghost use Rattle.c6x_elf.specs.declared.segment.Segment.{Segment as Part};
-ghost use Rattle.c6x_module_rules.specs.Ranges.{first_where, is_range as writes, is_text as runs, ranges_in};
+ghost use Rattle.c6x_module.specs.Ranges.{first_where, is_range as writes, is_text as runs, ranges_in};
 
 use c6x_elf::Segment;
-use c6x_module_rules::{is_range, is_text};
+use c6x_module::{is_range, is_text};
 
 /// The text and the data range, of which nothing is copied. The other segments are dropped.
 #[tactic(auto, using(crate::proofs::Firsts::ranges_found, crate::proofs::Firsts::text_found, crate::proofs::Firsts::range_found))]

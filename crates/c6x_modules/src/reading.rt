@@ -1,8 +1,8 @@
 ghost use Rattle.std.specs.Prelude.{◌≡◌, ◌≤◌, IfOk, false, length};
 ghost use Rattle.c6x_base.specs.declared.limits.TheConstants.{MOST_SEGMENTS as most};
 ghost use Rattle.c6x_module.specs.Valid.{IsValid};
-ghost use Rattle.c6x_module_rules.specs.Modules.{module_in};
-ghost use Rattle.c6x_module_rules.specs.Refusals.{Answers};
+ghost use Rattle.c6x_module.specs.Modules.{module_in};
+ghost use Rattle.c6x_module.specs.Refusals.{Answers};
 
 use crate::ranges::take_ranges;
 use crate::survey::read_survey;

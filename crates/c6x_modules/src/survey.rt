@@ -2,22 +2,23 @@ ghost use Rattle.std.specs.Prelude.{◌≡◌, ◌*◌, ◌≤◌, ◌++◌, IfO
 ghost use Rattle.c6x_base.specs.declared.limits.TheConstants.{MOST_SEGMENTS as most};
 ghost use Rattle.c6x_elf.specs.Abi.{DT_DSBT_BASE as base_tag, DT_DSBT_SIZE as size_tag};
 ghost use Rattle.c6x_module.specs.Valid.{IsInside};
-ghost use Rattle.c6x_module_rules.specs.Entries.{tag_or as value_at};
-ghost use Rattle.c6x_module_rules.specs.Fields.{fields_of};
-ghost use Rattle.c6x_module_rules.specs.Modules.{module_in, ranges_then, relocs_refusal};
-ghost use Rattle.c6x_module_rules.specs.Ranges.{ranges_in};
-ghost use Rattle.c6x_module_rules.specs.Refusals.{Answers, Passes};
+ghost use Rattle.c6x_module.specs.Entries.{tag_or as value_at};
+ghost use Rattle.c6x_module.specs.Fields.{fields_of};
+ghost use Rattle.c6x_module.specs.Modules.{module_in, ranges_then, relocs_refusal};
+ghost use Rattle.c6x_module.specs.Ranges.{ranges_in};
+ghost use Rattle.c6x_module.specs.Refusals.{Answers, Passes};
 ghost use Rattle.c6x_modules.specs.Surveyed.{module_from, Surveys};
 
+use crate::checks::check_tables;
+use crate::copies::{copy_needed, copy_symbols};
+use crate::table_reading::read_tables;
 use c6x_base::{Name, Row};
 use c6x_elf::abi::{DT_DSBT_BASE, DT_DSBT_INDEX, DT_DSBT_SIZE};
 use c6x_elf::{Dyn, File, Rela, Segment};
-use c6x_module::{DynSymbol, Field, ModuleError};
-use c6x_module_rules::{
-    check_dsbt, check_entry, check_fields, check_kinds, check_shape, find_entries, find_ranges,
-    make_fields, tag_or,
+use c6x_module::{
+    DynSymbol, Field, ModuleError, check_dsbt, check_entry, check_fields, check_kinds, check_shape,
+    find_entries, find_ranges, make_fields, tag_or,
 };
-use c6x_module_tables::{check_tables, copy_needed, copy_symbols, read_tables};
 use std::alloc::{AllocError, Global};
 
 /// All of a module but its name and its segments.
@@ -32,7 +33,7 @@ pub struct Survey {
 }
 
 /// Reads all of a file's module but the segments, or tells the first broken rule.
-#[tactic(auto, unfolding(c6x_module_rules::specs::Modules::module_in))]
+#[tactic(auto, unfolding(c6x_module::specs::Modules::module_in))]
 pub fn read_survey(
     alloc: Global,
     big: bool,
@@ -50,7 +51,7 @@ pub fn read_survey(
 }
 
 /// The same behind the text, the data range and the dynamic entries.
-#[tactic(auto, unfolding(c6x_module_rules::specs::Modules::ranges_then, c6x_module_rules::specs::Modules::tables_then, c6x_module_rules::specs::Modules::module_of))]
+#[tactic(auto, unfolding(c6x_module::specs::Modules::ranges_then, c6x_module::specs::Modules::tables_then, c6x_module::specs::Modules::module_of))]
 fn survey_ranges(
     alloc: Global,
     big: bool,
@@ -88,7 +89,7 @@ fn join(mut relas: Vec<Rela>, jumps: &[Rela]) -> Result<Vec<Rela>, AllocError>
 }
 
 /// The fields of the entries of relocation, which keep the rules on fields; and the entry does.
-#[tactic(auto, unfolding(c6x_module_rules::specs::Modules::relocs_refusal))]
+#[tactic(auto, unfolding(c6x_module::specs::Modules::relocs_refusal))]
 fn read_fields(
     alloc: Global,
     file: &File,

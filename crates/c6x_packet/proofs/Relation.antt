@@ -4,9 +4,9 @@ use Rattle.std.proofs.Common.{◌≡◌, ℕ, suc, ◌+◌, ◌-◌, ◌%◌, �
 use Rattle.std.specs.List.{list_any}
 use Rattle.std.proofs.lemmas.Bool.{or_cases, or_left, or_right, and_parts, and_from, cases_lt, cond-true, cond-false, eqb-true, eq-eqb, both_ways, false_from_ne_true}
 use Rattle.c6x_spec.specs.Fields.{bits_of}
-use Rattle.c6x_instr.specs.declared.instr.Instr.{Instr}
-use Rattle.c6x_instr.specs.Spelling.{Spells, IsValid}
-use Rattle.c6x_instr.specs.Decoded.{decoded}
+use Rattle.c6x_encoding.specs.declared.instr.Instr.{Instr}
+use Rattle.c6x_encoding.specs.Spelling.{Spells, IsValid}
+use Rattle.c6x_encoding.specs.Decoded.{decoded}
 use Rattle.c6x_encoding.proofs.Back.{made-spelled}
 use Rattle.c6x_encoding.proofs.Facts.{spells-decoded, decoded-spelled}
 use Rattle.c6x_packet.specs.declared.error.PacketError.{PacketError}

@@ -2,8 +2,8 @@
 
 use Rattle.std.proofs.Common.{◌≡◌, ℕ, ◌+◌, ◌<◌, ◌≤◌, List, [], ◌∷◌, ◌++◌, length, take, drop, get_or, set, Option, Some, None, Result, Ok, Err, refl, sym, ◌∙◌, ap, arith, add-one, drop-cons, append_assoc, length-set}
 use Rattle.std.proofs.lemmas.List.{take_more_set}
-use Rattle.c6x_instr.specs.declared.instr.Instr.{Instr}
-use Rattle.c6x_instr.specs.Decoded.{decoded}
+use Rattle.c6x_encoding.specs.declared.instr.Instr.{Instr}
+use Rattle.c6x_encoding.specs.Decoded.{decoded}
 use Rattle.c6x_packet.specs.declared.error.PacketError.{PacketError}
 use Rattle.c6x_packet.specs.declared.error.PacketError.TheVariants.{BadWord}
 use Rattle.c6x_packet.specs.Packets.{or_bad, spelled_from}

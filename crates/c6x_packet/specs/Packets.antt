@@ -1,9 +1,9 @@
 -- Execute packets (SPRU732, "Parallel Operations"), and the first rule that words break.
 
 use Rattle.std.specs.Prelude.{◌≡◌, ℕ, ◌+◌, ◌-◌, ◌%◌, ◌<◌, ◌≤◌, nat_eq, Bool, true, false, ◌&&◌, List, [], ◌∷◌, length, slice_get, slice_index, Option, None, Some, Result, Ok, Err, if◌then◌else◌}
-use Rattle.c6x_instr.specs.declared.instr.Instr.{Instr}
-use Rattle.c6x_instr.specs.Spelling.{Spells}
-use Rattle.c6x_instr.specs.Decoded.{decoded}
+use Rattle.c6x_encoding.specs.declared.instr.Instr.{Instr}
+use Rattle.c6x_encoding.specs.Spelling.{Spells}
+use Rattle.c6x_encoding.specs.Decoded.{decoded}
 use Rattle.c6x_packet.specs.declared.error.PacketError.{PacketError}
 use Rattle.c6x_packet.specs.declared.error.PacketError.TheVariants.{BadWord, TooLong, UnitTwice, SameSide, CrossTwice}
 use Rattle.c6x_packet.specs.declared.rule.PairRule.{PairRule}

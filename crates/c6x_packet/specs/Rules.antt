@@ -4,11 +4,11 @@ use Rattle.std.specs.Prelude.{ℕ, nat_eq, Bool, true, false, not, ◌&&◌, ◌
 use Rattle.std.specs.List.{list_any}
 use Rattle.c6x_base.specs.declared.side.Side.{Side}
 use Rattle.c6x_base.specs.declared.side.Side.TheVariants.{A, B}
-use Rattle.c6x_instr.specs.declared.instr.Instr.{Instr}
-use Rattle.c6x_instr.specs.declared.op.Op.{Op}
-use Rattle.c6x_instr.specs.declared.op.Op.TheVariants.{Two, Move, Branch, Callp, BranchNop, BranchReg, BranchRegNop, AddKpc, Nop, Short, Long}
-use Rattle.c6x_instr.specs.declared.unit_kind.UnitKind.{UnitKind}
-use Rattle.c6x_instr.specs.declared.unit_kind.UnitKind.TheVariants.{L, S, D, M}
+use Rattle.c6x_encoding.specs.declared.instr.Instr.{Instr}
+use Rattle.c6x_encoding.specs.declared.op.Op.{Op}
+use Rattle.c6x_encoding.specs.declared.op.Op.TheVariants.{Two, Move, Branch, Callp, BranchNop, BranchReg, BranchRegNop, AddKpc, Nop, Short, Long}
+use Rattle.c6x_encoding.specs.declared.unit_kind.UnitKind.{UnitKind}
+use Rattle.c6x_encoding.specs.declared.unit_kind.UnitKind.TheVariants.{L, S, D, M}
 use Rattle.c6x_packet.specs.declared.rule.PairRule.{PairRule}
 use Rattle.c6x_packet.specs.declared.rule.PairRule.TheVariants.{Unit as UnitRule, Side as SideRule, Cross as CrossRule}
 

@@ -3,8 +3,8 @@
 use Rattle.std.specs.Prelude.{ℕ, ◌+◌, get_or, nat_eq, not, Bool, false, List, Option, None, Some}
 use Rattle.c6x_base.specs.declared.side.Side.{Side}
 use Rattle.c6x_base.specs.declared.side.Side.TheVariants.{A, B}
-use Rattle.c6x_instr.specs.declared.unit_kind.UnitKind.{UnitKind}
-use Rattle.c6x_instr.specs.declared.unit_kind.UnitKind.TheVariants.{L, S, D, M}
+use Rattle.c6x_encoding.specs.declared.unit_kind.UnitKind.{UnitKind}
+use Rattle.c6x_encoding.specs.declared.unit_kind.UnitKind.TheVariants.{L, S, D, M}
 
 abbrev pub side_number : Side → ℕ
 side_number A = 0

@@ -1,5 +1,5 @@
 ghost use Rattle.std.specs.Prelude.{◌≡◌, ◌↔◌, ℕ, List, Result, Ok, Err};
-ghost use Rattle.c6x_instr.specs.declared.instr.Instr.{Instr};
+ghost use Rattle.c6x_encoding.specs.declared.instr.Instr.{Instr};
 ghost use Rattle.c6x_packet.specs.declared.error.PacketError.{PacketError};
 ghost use Rattle.c6x_packet.specs.Packets.{IsChain, IsFirstBroken, IsPacketOf, split_of};
 

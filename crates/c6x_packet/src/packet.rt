@@ -13,7 +13,7 @@ pub struct Packet {
 /// Seen as the list of its instructions.
 impl Model for Packet {
     ghost use Rattle.std.specs.Prelude.{◌≡◌, ◌≤◌, List, length, take};
-    ghost use Rattle.c6x_instr.specs.declared.instr.Instr.{Instr};
+    ghost use Rattle.c6x_encoding.specs.declared.instr.Instr.{Instr};
 
     ghost Value = { List Instr };
 

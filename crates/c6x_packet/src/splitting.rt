@@ -1,6 +1,6 @@
 ghost use Rattle.std.specs.Prelude.{◌≡◌, ◌↔◌, ◌≤◌, ℕ, List, length, slice_get, IfOk, MatchResult, Result, Ok, Err, Some};
-ghost use Rattle.c6x_instr.specs.declared.instr.Instr.{Instr};
-ghost use Rattle.c6x_instr.specs.Spelling.{IsValid};
+ghost use Rattle.c6x_encoding.specs.declared.instr.Instr.{Instr};
+ghost use Rattle.c6x_encoding.specs.Spelling.{IsValid};
 ghost use Rattle.c6x_packet.specs.declared.error.PacketError.{PacketError};
 ghost use Rattle.c6x_packet.specs.Packets.{IsChain, IsFirstBroken, IsPacketOf, is_too_long, spelled_from, split_of, tested};
 

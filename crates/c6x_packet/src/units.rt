@@ -1,6 +1,6 @@
 ghost use Rattle.std.specs.Prelude.{◌≡◌, ◌<◌, ◌||◌, ℕ, Option, Some, None};
 ghost use Rattle.c6x_base.specs.declared.side.Side.{Side};
-ghost use Rattle.c6x_instr.specs.declared.unit_kind.UnitKind.{UnitKind};
+ghost use Rattle.c6x_encoding.specs.declared.unit_kind.UnitKind.{UnitKind};
 ghost use Rattle.c6x_packet.specs.Rules.{some_pair, unit_of, units_meet};
 ghost use Rattle.c6x_packet.specs.Taken.{kind_number, side_number, unit_number, is_unit_taken};
 ghost use Rattle.c6x_packet.specs.declared.rule.PairRule.TheVariants.{Unit as UnitRule};

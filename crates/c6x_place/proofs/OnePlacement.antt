@@ -4,14 +4,14 @@ use Rattle.std.specs.Prelude.{IfOk, Ok, Err, Option, None, Result, Some}
 use Rattle.std.proofs.lemmas.Grind.{common_steps}
 use Rattle.c6x_module.specs.declared.module.Module.{Module}
 use Rattle.c6x_plan.specs.declared.process_plan.ProcessPlan.{ProcessPlan}
-use Rattle.c6x_bind.specs.declared.bound_process.BoundProcess.{BoundProcess}
-use Rattle.c6x_seats.specs.Places.{ArePlaced, AreValid, Placed, one_text, texts_from}
-use Rattle.c6x_seats.specs.Rooms.{data_rooms, seat_places, seat_rooms, stack_room, text_places, text_room, text_rooms}
-use Rattle.c6x_seats.specs.declared.place_error.PlaceError.{PlaceError}
-use Rattle.c6x_seats.specs.declared.placement.Placement.{Placement}
-use Rattle.c6x_seats.specs.declared.seat.Seat.{Seat}
-use Rattle.c6x_seats.proofs.Orders.{placed_split, room_back}
-use Rattle.c6x_seats.proofs.Valid.{placed_valid, seat_back}
+use Rattle.c6x_place.specs.declared.bound_process.BoundProcess.{BoundProcess}
+use Rattle.c6x_place.specs.Places.{ArePlaced, AreValid, Placed, one_text, texts_from}
+use Rattle.c6x_place.specs.Rooms.{data_rooms, seat_places, seat_rooms, stack_room, text_places, text_room, text_rooms}
+use Rattle.c6x_place.specs.declared.place_error.PlaceError.{PlaceError}
+use Rattle.c6x_place.specs.declared.placement.Placement.{Placement}
+use Rattle.c6x_place.specs.declared.seat.Seat.{Seat}
+use Rattle.c6x_place.proofs.Orders.{placed_split, room_back}
+use Rattle.c6x_place.proofs.Valid.{placed_valid, seat_back}
 use Rattle.c6x_place.specs.Plans.{AreSeated, AreWanted, IsPlacement, one_seat, placement_of, plan_places, plan_rooms, seats_from, seats_places, seats_rooms, used_from}
 use Rattle.c6x_place.proofs.Placements.{answer_is, placement_is, some_step}
 use Rattle.c6x_place.proofs.Walks.{length_used}

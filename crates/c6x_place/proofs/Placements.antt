@@ -3,14 +3,14 @@ use Rattle.std.proofs.Common.{◌≡◌, ℕ, ◌+◌, ◌≤◌, List, [], ◌�
 use Rattle.std.specs.Prelude.{IfOk, Ok, Err, Option, None, Result, Some}
 use Rattle.c6x_module.specs.declared.module.Module.{Module}
 use Rattle.c6x_plan.specs.declared.process_plan.ProcessPlan.{ProcessPlan}
-use Rattle.c6x_bind.specs.declared.bound_process.BoundProcess.{BoundProcess}
-use Rattle.c6x_seats.specs.Places.{ArePlaced, Placed, one_text, texts_from}
-use Rattle.c6x_seats.specs.Rooms.{seat_places, seat_rooms, text_places, text_room, text_rooms}
-use Rattle.c6x_seats.specs.declared.place_error.PlaceError.{PlaceError}
-use Rattle.c6x_seats.specs.declared.place_error.PlaceError.TheVariants.{NoRoom, NoMemory}
-use Rattle.c6x_seats.specs.declared.placement.Placement.{Placement}
-use Rattle.c6x_seats.specs.declared.seat.Seat.{Seat}
-use Rattle.c6x_seats.proofs.Orders.{placed_append, room_is, seat_placed, with_value}
+use Rattle.c6x_place.specs.declared.bound_process.BoundProcess.{BoundProcess}
+use Rattle.c6x_place.specs.Places.{ArePlaced, Placed, one_text, texts_from}
+use Rattle.c6x_place.specs.Rooms.{seat_places, seat_rooms, text_places, text_room, text_rooms}
+use Rattle.c6x_place.specs.declared.place_error.PlaceError.{PlaceError}
+use Rattle.c6x_place.specs.declared.place_error.PlaceError.TheVariants.{NoRoom, NoMemory}
+use Rattle.c6x_place.specs.declared.placement.Placement.{Placement}
+use Rattle.c6x_place.specs.declared.seat.Seat.{Seat}
+use Rattle.c6x_place.proofs.Orders.{placed_append, room_is, seat_placed, with_value}
 use Rattle.c6x_place.specs.Plans.{AreSeated, AreWanted, IsPlacement, one_seat, placement_of, seats_from, seats_places, seats_rooms, used_from}
 use Rattle.c6x_place.proofs.Walks.{length_used}
 

@@ -5,9 +5,9 @@ use Rattle.c6x_spec.specs.Firsts.{◌<|>◌}
 use Rattle.c6x_spec.specs.Options.{◌>>=◌}
 use Rattle.c6x_module.specs.declared.module.Module.{Module}
 use Rattle.c6x_plan.specs.declared.process_plan.ProcessPlan.{ProcessPlan}
-use Rattle.c6x_bind.specs.Binding.{process_refusal}
-use Rattle.c6x_bind.specs.declared.bound_process.BoundProcess.{BoundProcess}
-use Rattle.c6x_seats.specs.declared.seat.Seat.{Seat}
+use Rattle.c6x_place.specs.Binding.{process_refusal}
+use Rattle.c6x_place.specs.declared.bound_process.BoundProcess.{BoundProcess}
+use Rattle.c6x_place.specs.declared.seat.Seat.{Seat}
 use Rattle.c6x_place.specs.Plans.{plans_refusal, is_used, used_from, one_seat, seats_from}
 
 pub plans_more : (modules : List Module) (process : ℕ) (plans : List ProcessPlan) (i : ℕ) (d : ProcessPlan) → i < length plans → plans_refusal modules process (drop i plans) ≡ (process_refusal modules process (get_or plans i d).name (get_or plans i d).module <|> plans_refusal modules (process + 1) (drop (i + 1) plans))

@@ -2,16 +2,16 @@
 use Rattle.std.specs.Prelude.{◌≡◌, ℕ, ◌+◌, ◌<◌, ◌||◌, Bool, true, false, List, [], ◌∷◌, ◌++◌, length, map, Option, None, Some}
 use Rattle.c6x_spec.specs.Firsts.{◌<|>◌}
 use Rattle.c6x_spec.specs.Options.{◌>>=◌}
-use Rattle.c6x_search.specs.Search.{has}
+use Rattle.c6x_base.specs.Search.{has}
 use Rattle.c6x_module.specs.declared.module.Module.{Module}
 use Rattle.c6x_plan.specs.declared.process_plan.ProcessPlan.{ProcessPlan}
-use Rattle.c6x_bind.specs.Binding.{Refusal, process_refusal, bound_process}
-use Rattle.c6x_bind.specs.declared.bound_process.BoundProcess.{BoundProcess}
-use Rattle.c6x_seats.specs.Places.{ArePlaced, texts_from, seat_of}
-use Rattle.c6x_seats.specs.Rooms.{text_rooms, text_places, seat_rooms, seat_places}
-use Rattle.c6x_seats.specs.declared.placement.Placement.{Placement}
-use Rattle.c6x_seats.specs.declared.room.Room.{Room}
-use Rattle.c6x_seats.specs.declared.seat.Seat.{Seat}
+use Rattle.c6x_place.specs.Binding.{Refusal, process_refusal, bound_process}
+use Rattle.c6x_place.specs.declared.bound_process.BoundProcess.{BoundProcess}
+use Rattle.c6x_place.specs.Places.{ArePlaced, texts_from, seat_of}
+use Rattle.c6x_place.specs.Rooms.{text_rooms, text_places, seat_rooms, seat_places}
+use Rattle.c6x_place.specs.declared.placement.Placement.{Placement}
+use Rattle.c6x_place.specs.declared.room.Room.{Room}
+use Rattle.c6x_place.specs.declared.seat.Seat.{Seat}
 
 -- The process's executable is a module of the plan.
 abbrev pub IsKnown : List Module → ProcessPlan → Type 0

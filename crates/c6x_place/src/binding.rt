@@ -1,9 +1,12 @@
 ghost use Rattle.std.specs.Prelude.{◌≡◌, ◌≤◌, All, IfOk, length};
-ghost use Rattle.c6x_bind.specs.Binding.{Passes};
+ghost use Rattle.c6x_place.specs.Binding.{Passes};
 ghost use Rattle.c6x_place.specs.Plans.{IsKnown, bound_plans, plans_refusal};
 
+use crate::bind_error::BindError;
+use crate::bound::Bound;
+use crate::needs::needs_of;
+use crate::process::bind_process;
 use c6x_base::Row;
-use c6x_bind::{BindError, Bound, bind_process, needs_of};
 use c6x_modules::Modules;
 use c6x_plan::ProcessPlan;
 use c6x_plan::limits::MOST_PROCESSES;

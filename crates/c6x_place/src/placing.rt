@@ -1,14 +1,18 @@
 ghost use Rattle.std.specs.Prelude.{◌≡◌, ◌+◌, ◌^◌, ◌<◌, ◌≤◌, [], length, IfOk};
 ghost use Rattle.c6x_spec.specs.Memory.{CanStart};
-ghost use Rattle.c6x_seats.specs.Places.{AreValid, Placed};
+ghost use Rattle.c6x_place.specs.Places.{AreValid, Placed};
 ghost use Rattle.c6x_place.specs.Plans.{IsPlacement, one_seat, placement_of, plan_places, plan_rooms, seats_from};
 
+use crate::bound::Bound;
+use crate::bound_process::BoundProcess;
+use crate::place_error::PlaceError;
+use crate::placement::Placement;
+use crate::places::{place_seat, place_texts};
+use crate::seat::Seat;
 use crate::used::used_texts;
 use c6x_base::Row;
-use c6x_bind::{Bound, BoundProcess};
 use c6x_modules::Modules;
 use c6x_plan::ProcessPlan;
-use c6x_seats::{PlaceError, Placement, Seat, place_seat, place_texts};
 use std::alloc::Global;
 
 /// Where the ranges of the processes stand in the memory of `len` bytes from `base` on, in which order and at which steps

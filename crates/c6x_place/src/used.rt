@@ -1,8 +1,8 @@
 ghost use Rattle.std.specs.Prelude.{◌≡◌, IfOk};
-ghost use Rattle.c6x_search.specs.Search.{has};
+ghost use Rattle.c6x_base.specs.Search.{has};
 ghost use Rattle.c6x_place.specs.Plans.{is_used, used_from};
 
-use c6x_bind::BoundProcess;
+use crate::bound_process::BoundProcess;
 use c6x_modules::Modules;
 use std::alloc::{AllocError, Global};
 

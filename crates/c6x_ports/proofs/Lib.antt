@@ -1,3 +1,4 @@
+pub mod ReadyFound
 pub mod Carried
 pub mod Places
 pub mod Fetches

@@ -1,3 +1,5 @@
+pub mod Picks
+pub mod Chooser
 pub mod Shelf
 pub mod Sink
 pub mod Streams

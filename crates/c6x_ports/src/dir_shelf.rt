@@ -3,8 +3,8 @@ ghost use Rattle.std.specs.Str.{IsUtf8};
 ghost use Rattle.c6x_spec.specs.Files.{Rose};
 
 use crate::numbered::raise;
+use crate::shelf::{Shelf, ShelfError};
 use crate::streams::{WriteFault, read_front, write_whole};
-use crate::{Shelf, ShelfError};
 use c6x_base::Name;
 use std::alloc::Global;
 use std::fs::File;

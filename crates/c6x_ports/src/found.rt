@@ -4,7 +4,7 @@ ghost use Rattle.std.specs.Option.{option_copied};
 ghost use Rattle.c6x_spec.specs.Files.{file_at, stored};
 ghost use Rattle.c6x_ports.specs.Told.{pairs_of, has_name};
 
-use crate::Stored;
+use crate::stored::Stored;
 use c6x_base::{Bytes, Name};
 use std::alloc::{AllocError, Global};
 

@@ -8,7 +8,8 @@ ghost use Rattle.c6x_ports.specs.MemoryShelf.{ShelfInMemory, IsErrorOf, fetched,
 
 use crate::found::{bytes_under, put_file};
 use crate::numbered::{is_failing, raise};
-use crate::{Shelf, ShelfError, Stored};
+use crate::shelf::{Shelf, ShelfError};
+use crate::stored::Stored;
 use c6x_base::Name;
 use std::alloc::Global;
 use std::marker::Model;

@@ -2,7 +2,7 @@ ghost use Rattle.std.specs.Prelude.{◌≡◌, ◌≤◌, [], IfOk, is_ok};
 ghost use Rattle.c6x_ports.specs.MemorySink.{after_put, takes_all};
 
 use crate::numbered::{is_failing, raise};
-use crate::{Sink, SinkError};
+use crate::sink::{Sink, SinkError};
 use std::alloc::{AllocError, Global};
 use std::marker::Model;
 

@@ -1,7 +1,7 @@
 ghost use Rattle.std.specs.List.{flat_map};
 ghost use Rattle.c6x_ports.specs.Sink.{Puts};
 
-use crate::{Sink, SinkError};
+use crate::sink::{Sink, SinkError};
 
 /// Puts these pieces one behind the other, up to the first that fails.
 #[tactic(auto, using(c6x_spec::proofs::Puts::takes_then, c6x_spec::proofs::Puts::front_of_pieces))]

@@ -3,8 +3,8 @@ ghost use Rattle.c6x_spec.specs.Files.{Rose};
 ghost use Rattle.c6x_spec.specs.Sinks.{Takes, TakesFront};
 
 use crate::numbered::raise;
+use crate::sink::{Sink, SinkError};
 use crate::streams::write_whole;
-use crate::{Sink, SinkError};
 use std::io::Write;
 use std::marker::Model;
 use std::rt::{Stderr, Stdout};

@@ -2,7 +2,7 @@ ghost use Rattle.std.specs.Prelude.{◌≡◌, ◌≢◌, ℕ, ◌+◌, ◌<◌,
 ghost use Rattle.c6x_spec.specs.Sinks.{Takes, TakesFront};
 ghost use Rattle.c6x_ports.specs.Streams.{GivesFront};
 
-use crate::ShelfError;
+use crate::shelf::ShelfError;
 use std::alloc::Global;
 use std::io::{Read, Write};
 

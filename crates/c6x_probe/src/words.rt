@@ -1,4 +1,4 @@
-ghost use Rattle.c6x_instr.specs.Rows.{FitsAccess};
+ghost use Rattle.c6x_encoding.specs.Rows.{FitsAccess};
 
 use c6x_base::Side;
 use c6x_dis::show;

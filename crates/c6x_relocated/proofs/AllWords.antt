@@ -6,22 +6,22 @@ use Rattle.c6x_dsbt.specs.declared.wanted.Wanted.{Wanted}
 use Rattle.c6x_elf.specs.declared.file.File.{File}
 use Rattle.c6x_layout.specs.Dynamics.{is_filled_word}
 use Rattle.c6x_layout.specs.Regions.{moves}
-use Rattle.c6x_objects.specs.Objects.{IsObject}
-use Rattle.c6x_objects.specs.declared.region.Region.{Region}
-use Rattle.c6x_objects.specs.declared.region.Region.TheVariants.{Absolute as Fixed, Data, Import, Text}
+use Rattle.c6x_symbols.specs.Objects.{IsObject}
+use Rattle.c6x_symbols.specs.declared.region.Region.{Region}
+use Rattle.c6x_symbols.specs.declared.region.Region.TheVariants.{Absolute as Fixed, Data, Import, Text}
 use Rattle.c6x_plan.specs.declared.link_plan.LinkPlan.{LinkPlan}
 use Rattle.c6x_reloc.specs.declared.origin.Origin.TheVariants.{Absolute}
 use Rattle.c6x_reloc.specs.declared.reloc_kind.RelocKind.TheVariants.{ABS32}
-use Rattle.c6x_link_images.specs.Images.{value_word}
-use Rattle.c6x_link_targets.specs.Addresses.{wanted_address}
-use Rattle.c6x_link_targets.specs.Targets.{import_symbol, target_of}
-use Rattle.c6x_link_targets.specs.Working.{Working, working_of}
+use Rattle.c6x_link.specs.Images.{value_word}
+use Rattle.c6x_link.specs.Addresses.{wanted_address}
+use Rattle.c6x_link.specs.Targets.{import_symbol, target_of}
+use Rattle.c6x_link.specs.Working.{Working, working_of}
 use Rattle.c6x_link.specs.Linked.{link_refusal, parts_of}
 use Rattle.c6x_module.specs.declared.module.Module.{Module}
-use Rattle.c6x_fill.specs.Values.{shift_of, slot_word}
-use Rattle.c6x_shift.specs.Shift.{moved_by}
-use Rattle.c6x_moved.specs.Holds.{HoldsAt}
-use Rattle.c6x_moved.specs.Moved.{Shifts, moved_symbol}
+use Rattle.c6x_load.specs.Values.{shift_of, slot_word}
+use Rattle.c6x_reloc.specs.Shift.{moved_by}
+use Rattle.c6x_relocated.specs.Holds.{HoldsAt}
+use Rattle.c6x_relocated.specs.Moved.{Shifts, moved_symbol}
 use Rattle.c6x_relocated.specs.Filled.{Finding, IsMember, address_in, definition_address, targets_in}
 use Rattle.c6x_relocated.specs.Relocated.{IsLinkedModule, Stands, shifts_of}
 use Rattle.c6x_relocated.specs.ValueWords.{stub_word_at, word_inputs, word_symbol}

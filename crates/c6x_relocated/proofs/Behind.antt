@@ -9,21 +9,21 @@ use Rattle.c6x_layout.specs.Places.{in_far_bytes, in_far_zeros, in_near_bytes, i
 use Rattle.c6x_layout.specs.Regions.{section_region, sections_at, zone_region}
 use Rattle.c6x_layout.specs.declared.layout.Layout.{Layout}
 use Rattle.c6x_layout.specs.declared.place.Place.{Place}
-use Rattle.c6x_link_entries.specs.Rules.{is_text}
-use Rattle.c6x_link_entries.specs.declared.entry.Entry.{Entry}
-use Rattle.c6x_link_images.specs.Worked.{IsWorkedOut, laying_in}
-use Rattle.c6x_link_targets.specs.Addresses.{address_in}
-use Rattle.c6x_link_targets.specs.LinkEntries.{entry_on, link_entries, link_entry, room_of, section_at, stands_in_text}
-use Rattle.c6x_link_targets.specs.Targets.{target_of}
-use Rattle.c6x_link_targets.specs.Working.{Working}
-use Rattle.c6x_link_targets.specs.declared.target.Target.{Target}
-use Rattle.c6x_linked.specs.declared.limits.TheConstants.{TEXT_START}
-use Rattle.c6x_objects.specs.Parts.{part_of, parts_of}
-use Rattle.c6x_objects.specs.Sections.{zone_of}
-use Rattle.c6x_objects.specs.declared.object_entry.ObjectEntry.{ObjectEntry}
-use Rattle.c6x_objects.specs.declared.part.Part.{Part}
-use Rattle.c6x_objects.specs.declared.zone.Zone.{Zone}
-use Rattle.c6x_objects.specs.declared.zone.Zone.TheVariants.{Far, Near, Text}
+use Rattle.c6x_symbols.specs.EntryRules.{is_text}
+use Rattle.c6x_symbols.specs.declared.entry.Entry.{Entry}
+use Rattle.c6x_link.specs.Worked.{IsWorkedOut, laying_in}
+use Rattle.c6x_link.specs.Addresses.{address_in}
+use Rattle.c6x_link.specs.LinkEntries.{entry_on, link_entries, link_entry, room_of, section_at, stands_in_text}
+use Rattle.c6x_link.specs.Targets.{target_of}
+use Rattle.c6x_link.specs.Working.{Working}
+use Rattle.c6x_link.specs.declared.target.Target.{Target}
+use Rattle.c6x_layout.specs.declared.file_limits.TheConstants.{TEXT_START}
+use Rattle.c6x_symbols.specs.Parts.{part_of, parts_of}
+use Rattle.c6x_symbols.specs.Sections.{zone_of}
+use Rattle.c6x_symbols.specs.declared.object_entry.ObjectEntry.{ObjectEntry}
+use Rattle.c6x_symbols.specs.declared.part.Part.{Part}
+use Rattle.c6x_symbols.specs.declared.zone.Zone.{Zone}
+use Rattle.c6x_symbols.specs.declared.zone.Zone.TheVariants.{Far, Near, Text}
 use Rattle.c6x_link.proofs.EachEntry.{IsOf, all_entries}
 use Rattle.c6x_link.proofs.EntriesInside.{HasBytes, OwnSection, entry_section, own_sized, part_is, region_own, room_own, sized_has}
 use Rattle.c6x_link.proofs.Found.{OwnPart}

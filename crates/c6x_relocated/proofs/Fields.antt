@@ -7,41 +7,41 @@ use Rattle.c6x_spec.specs.Memory.{IsOnMemory, Memory}
 use Rattle.c6x_spec.specs.Parts.{HoldsPart}
 use Rattle.c6x_elf.specs.declared.file.File.{File}
 use Rattle.c6x_plan.specs.declared.link_plan.LinkPlan.{LinkPlan}
-use Rattle.c6x_objects.specs.Objects.{IsObject}
+use Rattle.c6x_symbols.specs.Objects.{IsObject}
 use Rattle.c6x_reloc.specs.Fields.{HoldsValue, first_bit}
 use Rattle.c6x_reloc.specs.Table.{row_of}
 use Rattle.c6x_reloc.specs.Value.{value_of}
 use Rattle.c6x_reloc.specs.declared.inputs.Inputs.{Inputs}
 use Rattle.c6x_reloc.specs.declared.origin.Origin.TheVariants.{Nothing}
 use Rattle.c6x_reloc.specs.declared.reloc_kind.RelocKind.{RelocKind}
-use Rattle.c6x_fields.proofs.Bytes.{patched_bytes, patched_length}
-use Rattle.c6x_fields.proofs.Held.{held_in_list}
-use Rattle.c6x_fields.proofs.RowFacts.{size_some, width_some}
-use Rattle.c6x_fields.proofs.Steps.{last_both}
-use Rattle.c6x_fields.specs.Fields.{AreBytes, IsLast, IsPatchedBy, last_bit, patched}
-use Rattle.c6x_fields.specs.declared.field.Field.{Field}
-use Rattle.c6x_link_entries.proofs.Walks.{data_is, field_is, room_in, text_is}
-use Rattle.c6x_link_entries.specs.Entries.{IsIn, data_field, data_fields, field_in, is_dynamic, shown, text_field, text_fields}
-use Rattle.c6x_link_entries.specs.Rules.{entry_rule}
-use Rattle.c6x_link_entries.specs.declared.entry.Entry.{Entry}
-use Rattle.c6x_link_images.specs.Images.{data_image, text_image}
-use Rattle.c6x_linked.specs.declared.limits.TheConstants.{TEXT_START}
-use Rattle.c6x_link_targets.specs.LinkEntries.{link_entries}
-use Rattle.c6x_link_targets.specs.Working.{Working, working_of}
+use Rattle.c6x_reloc.proofs.Bytes.{patched_bytes, patched_length}
+use Rattle.c6x_reloc.proofs.Held.{held_in_list}
+use Rattle.c6x_reloc.proofs.RowFacts.{size_some, width_some}
+use Rattle.c6x_reloc.proofs.Steps.{last_both}
+use Rattle.c6x_reloc.specs.FieldBits.{AreBytes, IsLast, IsPatchedBy, last_bit, patched}
+use Rattle.c6x_reloc.specs.declared.field.Field.{Field}
+use Rattle.c6x_symbols.proofs.Walks.{data_is, field_is, room_in, text_is}
+use Rattle.c6x_symbols.specs.LinkEntries.{IsIn, data_field, data_fields, field_in, is_dynamic, shown, text_field, text_fields}
+use Rattle.c6x_symbols.specs.EntryRules.{entry_rule}
+use Rattle.c6x_symbols.specs.declared.entry.Entry.{Entry}
+use Rattle.c6x_link.specs.Images.{data_image, text_image}
+use Rattle.c6x_layout.specs.declared.file_limits.TheConstants.{TEXT_START}
+use Rattle.c6x_link.specs.LinkEntries.{link_entries}
+use Rattle.c6x_link.specs.Working.{Working, working_of}
 use Rattle.c6x_link.specs.Linked.{code_of, content_of, link_refusal, parts_of}
 use Rattle.c6x_module.specs.Valid.{IsValid}
 use Rattle.c6x_module.specs.declared.module.Module.{Module}
-use Rattle.c6x_bind.specs.declared.target.Target.{Target}
-use Rattle.c6x_fill.proofs.Images.{data_holds}
-use Rattle.c6x_fill.proofs.Ranges.{length_filled}
-use Rattle.c6x_fill.specs.Values.{data_image as loaded_image, filled, shift_of}
-use Rattle.c6x_shift.specs.Shift.{AreWords, moved_by, origin_of}
-use Rattle.c6x_moved.proofs.Stays.{stays}
-use Rattle.c6x_moved.specs.Holds.{HoldsAt}
-use Rattle.c6x_moved.proofs.Words.{shift_place}
-use Rattle.c6x_moved.specs.Moved.{is_static, moved_inputs, moved_place}
-use Rattle.c6x_patched.proofs.RangePatched.{range_patched}
-use Rattle.c6x_patched.specs.Patches.{loaded_fields}
+use Rattle.c6x_place.specs.declared.target.Target.{Target}
+use Rattle.c6x_load.proofs.Images.{data_holds}
+use Rattle.c6x_load.proofs.Ranges.{length_filled}
+use Rattle.c6x_load.specs.Values.{data_image as loaded_image, filled, shift_of}
+use Rattle.c6x_reloc.specs.Shift.{AreWords, moved_by, origin_of}
+use Rattle.c6x_relocated.proofs.Stays.{stays}
+use Rattle.c6x_relocated.specs.Holds.{HoldsAt}
+use Rattle.c6x_relocated.proofs.MovedWords.{shift_place}
+use Rattle.c6x_relocated.specs.Moved.{is_static, moved_inputs, moved_place}
+use Rattle.c6x_relocated.proofs.RangePatched.{range_patched}
+use Rattle.c6x_relocated.specs.Patches.{loaded_fields}
 use Rattle.c6x_relocated.specs.Relocated.{IsAlone, IsLinkedModule, Stands, bit_of, fields_beside, is_filled, shifts_of}
 use Rattle.c6x_relocated.proofs.Basics.{of_one}
 use Rattle.c6x_relocated.proofs.Behind.{IsBehind, all_behind}

@@ -12,11 +12,11 @@ use Rattle.c6x_elf.proofs.NumberRows.{length-word_row}
 use Rattle.c6x_elf.specs.Held.{Holds}
 use Rattle.c6x_elf.specs.Laid.{AllHeld, InOrder, Part, laid}
 use Rattle.c6x_elf.specs.Rows.{word_bytes, word_row}
-use Rattle.c6x_link_images.proofs.ImageParts.{data_order, file_parts_of, last_part, word_part}
-use Rattle.c6x_link_images.specs.Images.{data_image, value_word, value_words}
-use Rattle.c6x_link_images.specs.Worked.{IsWorkedOut}
-use Rattle.c6x_link_targets.specs.Working.{Working}
-use Rattle.c6x_patched.proofs.WordSet.{same_bytes}
+use Rattle.c6x_link.proofs.ImageParts.{data_order, file_parts_of, last_part, word_part}
+use Rattle.c6x_link.specs.Images.{data_image, value_word, value_words}
+use Rattle.c6x_link.specs.Worked.{IsWorkedOut}
+use Rattle.c6x_link.specs.Working.{Working}
+use Rattle.c6x_relocated.proofs.WordSet.{same_bytes}
 use Rattle.c6x_relocated.proofs.Basics.{get_map}
 
 -- a word of a row

@@ -9,35 +9,35 @@ use Rattle.c6x_elf.specs.Rows.{word_bytes, word_row}
 use Rattle.c6x_elf.specs.Types.{Rela}
 use Rattle.c6x_elf.specs.declared.file.File.{File}
 use Rattle.c6x_plan.specs.declared.link_plan.LinkPlan.{LinkPlan}
-use Rattle.c6x_objects.specs.Objects.{IsObject}
-use Rattle.c6x_objects.specs.declared.region.Region.{Region}
-use Rattle.c6x_objects.specs.declared.region.Region.TheVariants.{Absolute as Fixed, Data, Import, Text}
+use Rattle.c6x_symbols.specs.Objects.{IsObject}
+use Rattle.c6x_symbols.specs.declared.region.Region.{Region}
+use Rattle.c6x_symbols.specs.declared.region.Region.TheVariants.{Absolute as Fixed, Data, Import, Text}
 use Rattle.c6x_reloc.specs.Value.{less, moved}
 use Rattle.c6x_reloc.specs.declared.origin.Origin.TheVariants.{Absolute}
 use Rattle.c6x_reloc.specs.declared.reloc_kind.RelocKind.{RelocKind}
 use Rattle.c6x_reloc.specs.declared.reloc_kind.RelocKind.TheVariants.{ABS32}
-use Rattle.c6x_linked.specs.File.{text_bytes, text_parts}
-use Rattle.c6x_linked.specs.Hash.{buckets_of, chains_of, hash_words}
-use Rattle.c6x_linked.specs.Places.{hash_at}
-use Rattle.c6x_linked.specs.Tables.{counts_of, shared_names}
-use Rattle.c6x_linked.specs.declared.limits.TheConstants.{TEXT_START}
-use Rattle.c6x_linked.specs.declared.parts.Parts.{Parts}
-use Rattle.c6x_link_entries.specs.Entries.{dynamic_addend, dynamic_relas, is_dynamic, is_dynamic_kind, rela_of, relas_at}
-use Rattle.c6x_link_entries.specs.Rules.{is_fixed, is_word}
-use Rattle.c6x_link_entries.specs.declared.entry.Entry.{Entry}
-use Rattle.c6x_link_images.specs.Words.{word_relas}
-use Rattle.c6x_link_targets.specs.LinkEntries.{link_entries}
-use Rattle.c6x_link_targets.specs.Working.{Working, working_of}
+use Rattle.c6x_layout.specs.File.{text_bytes, text_parts}
+use Rattle.c6x_layout.specs.Hash.{buckets_of, chains_of, hash_words}
+use Rattle.c6x_layout.specs.FilePlaces.{hash_at}
+use Rattle.c6x_layout.specs.Tables.{counts_of, shared_names}
+use Rattle.c6x_layout.specs.declared.file_limits.TheConstants.{TEXT_START}
+use Rattle.c6x_layout.specs.declared.parts.Parts.{Parts}
+use Rattle.c6x_symbols.specs.LinkEntries.{dynamic_addend, dynamic_relas, is_dynamic, is_dynamic_kind, rela_of, relas_at}
+use Rattle.c6x_symbols.specs.EntryRules.{is_fixed, is_word}
+use Rattle.c6x_symbols.specs.declared.entry.Entry.{Entry}
+use Rattle.c6x_link.specs.Words.{word_relas}
+use Rattle.c6x_link.specs.LinkEntries.{link_entries}
+use Rattle.c6x_link.specs.Working.{Working, working_of}
 use Rattle.c6x_link.specs.Linked.{link_refusal, parts_of}
 use Rattle.c6x_module.specs.Valid.{IsValid}
 use Rattle.c6x_module.specs.declared.field.Field.{Field}
 use Rattle.c6x_module.specs.declared.module.Module.{Module}
-use Rattle.c6x_module_rules.specs.Fields.{fields_of}
-use Rattle.c6x_fill.specs.Values.{shift_of, slot_word}
-use Rattle.c6x_shift.specs.Shift.{moved_by}
-use Rattle.c6x_moved.proofs.Words.{start_sum}
-use Rattle.c6x_moved.specs.Holds.{HoldsAt}
-use Rattle.c6x_moved.specs.Moved.{moved_inputs, moved_symbol}
+use Rattle.c6x_module.specs.Fields.{fields_of}
+use Rattle.c6x_load.specs.Values.{shift_of, slot_word}
+use Rattle.c6x_reloc.specs.Shift.{moved_by}
+use Rattle.c6x_relocated.proofs.MovedWords.{start_sum}
+use Rattle.c6x_relocated.specs.Holds.{HoldsAt}
+use Rattle.c6x_relocated.specs.Moved.{moved_inputs, moved_symbol}
 use Rattle.c6x_relocated.specs.Filled.{Finding, IsMember, address_in, definition_address, targets_in}
 use Rattle.c6x_relocated.specs.Relocated.{IsLinkedModule, Stands, shifts_of}
 use Rattle.c6x_relocated.proofs.LinkedParts.{HasParts, has_parts}

@@ -19,33 +19,33 @@ use Rattle.c6x_reloc.specs.declared.origin.Origin.{Origin}
 use Rattle.c6x_reloc.specs.declared.origin.Origin.TheVariants.{Nothing, Absolute, Packet, Table, Got, Index, Slot}
 use Rattle.c6x_reloc.specs.declared.reloc_kind.RelocKind.{RelocKind}
 use Rattle.c6x_reloc.specs.declared.reloc_kind.RelocKind.TheVariants.{ABS32}
-use Rattle.c6x_fields.proofs.Bytes.{inside_is, patched_bytes, patched_length}
-use Rattle.c6x_fields.proofs.Steps.{field_bit_outside, last_both}
-use Rattle.c6x_fields.specs.Fields.{AreBytes, last_bit, lowest, or_bit, patched}
-use Rattle.c6x_fields.specs.declared.field.Field.{Field}
-use Rattle.c6x_link_entries.specs.Entries.{data_field, data_fields, dynamic_relas, field_at, field_in, field_of_kind, field_with, value_or}
-use Rattle.c6x_link_entries.specs.declared.entry.Entry.{Entry}
-use Rattle.c6x_link_images.proofs.ImageParts.{data_length}
-use Rattle.c6x_link_images.specs.Images.{data_image, value_word}
-use Rattle.c6x_link_images.specs.Worked.{IsWorkedOut, laying_in}
-use Rattle.c6x_link_images.specs.Words.{stub_relas, word_relas}
-use Rattle.c6x_link_targets.specs.LinkEntries.{link_entries}
-use Rattle.c6x_link_targets.specs.Working.{Working}
+use Rattle.c6x_reloc.proofs.Bytes.{inside_is, patched_bytes, patched_length}
+use Rattle.c6x_reloc.proofs.Steps.{field_bit_outside, last_both}
+use Rattle.c6x_reloc.specs.FieldBits.{AreBytes, last_bit, lowest, or_bit, patched}
+use Rattle.c6x_reloc.specs.declared.field.Field.{Field}
+use Rattle.c6x_symbols.specs.LinkEntries.{data_field, data_fields, dynamic_relas, field_at, field_in, field_of_kind, field_with, value_or}
+use Rattle.c6x_symbols.specs.declared.entry.Entry.{Entry}
+use Rattle.c6x_link.proofs.ImageParts.{data_length}
+use Rattle.c6x_link.specs.Images.{data_image, value_word}
+use Rattle.c6x_link.specs.Worked.{IsWorkedOut, laying_in}
+use Rattle.c6x_link.specs.Words.{stub_relas, word_relas}
+use Rattle.c6x_link.specs.LinkEntries.{link_entries}
+use Rattle.c6x_link.specs.Working.{Working}
 use Rattle.c6x_link.specs.Linked.{parts_of}
 use Rattle.c6x_link_loads.proofs.Laid.{is_laid}
 use Rattle.c6x_module.specs.Valid.{IsValid}
 use Rattle.c6x_module.specs.declared.module.Module.{Module}
-use Rattle.c6x_module_rules.specs.Fields.{field_of}
-use Rattle.c6x_bind.specs.declared.target.Target.{Target}
-use Rattle.c6x_fill.proofs.Images.{data_holds}
-use Rattle.c6x_fill.proofs.Ranges.{length_filled}
-use Rattle.c6x_fill.specs.Values.{data_image as loaded_image, filled, shift_of}
-use Rattle.c6x_shift.specs.Shift.{moved_by, origin_of}
-use Rattle.c6x_moved.proofs.Word.{abs32_is}
-use Rattle.c6x_moved.proofs.Words.{shift_place}
-use Rattle.c6x_moved.specs.Holds.{HoldsAt, word_field}
-use Rattle.c6x_patched.proofs.RangePatched.{range_patched}
-use Rattle.c6x_patched.specs.Patches.{loaded_fields}
+use Rattle.c6x_module.specs.Fields.{field_of}
+use Rattle.c6x_place.specs.declared.target.Target.{Target}
+use Rattle.c6x_load.proofs.Images.{data_holds}
+use Rattle.c6x_load.proofs.Ranges.{length_filled}
+use Rattle.c6x_load.specs.Values.{data_image as loaded_image, filled, shift_of}
+use Rattle.c6x_reloc.specs.Shift.{moved_by, origin_of}
+use Rattle.c6x_relocated.proofs.Word.{abs32_is}
+use Rattle.c6x_relocated.proofs.MovedWords.{shift_place}
+use Rattle.c6x_relocated.specs.Holds.{HoldsAt, word_field}
+use Rattle.c6x_relocated.proofs.RangePatched.{range_patched}
+use Rattle.c6x_relocated.specs.Patches.{loaded_fields}
 use Rattle.c6x_relocated.specs.Relocated.{Stands}
 use Rattle.c6x_relocated.specs.ValueWords.{word_inputs}
 use Rattle.c6x_relocated.proofs.Basics.{got}

@@ -5,19 +5,19 @@ use Rattle.std.specs.Prelude.{slice_get}
 use Rattle.std.proofs.lemmas.Bool.Decides.{nat_tests}
 use Rattle.std.proofs.lemmas.List.{length-map}
 use Rattle.std.proofs.lemmas.List.Sums.{sum_by-cons}
-use Rattle.c6x_elf_entries.specs.Attributes.{info_binding, section_class}
+use Rattle.c6x_elf_headers.specs.Attributes.{info_binding, section_class}
 use Rattle.c6x_symbols.specs.Bindings.{BoundName, bound_at, exports_of, imports_of, is_imported, numbers_where}
-use Rattle.c6x_link_images.specs.Exports.{export_of, import_info, import_of, shared_of}
-use Rattle.c6x_link_targets.specs.Targets.{import_symbol}
-use Rattle.c6x_link_targets.specs.Working.{Working}
+use Rattle.c6x_link.specs.Exports.{export_of, import_info, import_of, shared_of}
+use Rattle.c6x_link.specs.Targets.{import_symbol}
+use Rattle.c6x_link.specs.Working.{Working}
 use Rattle.c6x_link.specs.Linked.{parts_of}
-use Rattle.c6x_loads.specs.Loads.{shared_symbol}
+use Rattle.c6x_link_loads.specs.Loads.{shared_symbol}
 use Rattle.c6x_module.specs.Lookups.{is_local, is_own, is_weak_symbol}
 use Rattle.c6x_module.specs.declared.module.Module.{Module}
 use Rattle.c6x_module.specs.declared.symbol.DynSymbol.{DynSymbol}
-use Rattle.c6x_bind.specs.Definitions.{field_found, field_target, first_export, found_target, or_weak, symbol_found, target_or_zero}
-use Rattle.c6x_bind.specs.declared.found.Found.{Found}
-use Rattle.c6x_bind.specs.declared.found.Found.TheVariants.{At, Missing, Nothing}
+use Rattle.c6x_place.specs.Definitions.{field_found, field_target, first_export, found_target, or_weak, symbol_found, target_or_zero}
+use Rattle.c6x_place.specs.declared.found.Found.{Found}
+use Rattle.c6x_place.specs.declared.found.Found.TheVariants.{At, Missing, Nothing}
 use Rattle.c6x_relocated.specs.Filled.{Finding, address_in, definition_address, word_on}
 use Rattle.c6x_relocated.specs.Named.{named_address}
 use Rattle.c6x_relocated.proofs.Basics.{get_map}

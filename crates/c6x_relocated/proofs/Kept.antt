@@ -3,7 +3,7 @@ use Rattle.std.proofs.Common.{◌≡◌, ◌^◌, ◌<◌, false, List, ◌∷�
 use Rattle.std.specs.Prelude.{All, is_some, option_map}
 use Rattle.c6x_elf.specs.declared.file.File.{File}
 use Rattle.c6x_plan.specs.declared.link_plan.LinkPlan.{LinkPlan}
-use Rattle.c6x_objects.specs.Objects.{IsObject}
+use Rattle.c6x_symbols.specs.Objects.{IsObject}
 use Rattle.c6x_symbols.specs.Bindings.{bindings_of, names_refusal}
 use Rattle.c6x_symbols.specs.Rules.{must, refusal}
 use Rattle.c6x_symbols.specs.declared.link_rule.LinkRule.TheVariants.{NoEntry}
@@ -11,17 +11,17 @@ use Rattle.c6x_dsbt.specs.Plans.{tables_refusal}
 use Rattle.c6x_layout.proofs.Bounds.{bounds}
 use Rattle.c6x_layout.specs.Layouts.{Laying, layout_of, layout_refusal, table_at}
 use Rattle.c6x_layout.specs.declared.layout.Layout.{Layout}
-use Rattle.c6x_link_entries.specs.Entries.{IsIn, entries_error}
-use Rattle.c6x_link_entries.specs.declared.entry.Entry.{Entry}
-use Rattle.c6x_link_images.proofs.ImageParts.{data_length, first_none, later_none, text_length}
-use Rattle.c6x_link_images.specs.Images.{data_image, text_image}
-use Rattle.c6x_link_images.specs.Worked.{IsWorkedOut, laying_in}
-use Rattle.c6x_link_targets.specs.LinkEntries.{entry_on, link_entries, link_entry}
-use Rattle.c6x_link_targets.specs.Working.{Working, laying_of, worked_out, working_of}
+use Rattle.c6x_symbols.specs.LinkEntries.{IsIn, entries_error}
+use Rattle.c6x_symbols.specs.declared.entry.Entry.{Entry}
+use Rattle.c6x_link.proofs.ImageParts.{data_length, first_none, later_none, text_length}
+use Rattle.c6x_link.specs.Images.{data_image, text_image}
+use Rattle.c6x_link.specs.Worked.{IsWorkedOut, laying_in}
+use Rattle.c6x_link.specs.LinkEntries.{entry_on, link_entries, link_entry}
+use Rattle.c6x_link.specs.Working.{Working, laying_of, worked_out, working_of}
 use Rattle.c6x_link.proofs.EachEntry.{all_entries}
 use Rattle.c6x_link.proofs.Placed.{entries_inside, worked_by}
 use Rattle.c6x_link.specs.Linked.{entry_of, entry_refusal, file_refusal, laid_refusal, link_refusal, of_entry}
-use Rattle.c6x_shift.specs.Shift.{AreWords}
+use Rattle.c6x_reloc.specs.Shift.{AreWords}
 use Rattle.c6x_relocated.proofs.Basics.{map_none, of_one}
 
 -- the rules of a link, one by one

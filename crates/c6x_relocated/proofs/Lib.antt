@@ -1,3 +1,9 @@
+pub mod Stays
+pub mod MovedWords
+pub mod Held
+pub mod Word
+pub mod WordSet
+pub mod RangePatched
 pub mod Basics
 pub mod LinkedParts
 pub mod Rules
@@ -19,3 +25,9 @@ pub mod FixedWords
 pub mod AllWords
 pub mod Imports
 pub mod Named
+pub mod Alignments
+pub mod Texts
+pub mod Ranges
+pub mod Seats
+pub mod Members
+pub mod Relocated

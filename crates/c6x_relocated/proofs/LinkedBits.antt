@@ -12,29 +12,29 @@ use Rattle.c6x_reloc.specs.Value.{value_of}
 use Rattle.c6x_reloc.specs.declared.origin.Origin.TheVariants.{Nothing}
 use Rattle.c6x_reloc.specs.declared.reloc_kind.RelocKind.{RelocKind}
 use Rattle.c6x_reloc.specs.declared.reloc_kind.RelocKind.TheVariants.{ABS32}
-use Rattle.c6x_fields.proofs.Steps.{last_both}
-use Rattle.c6x_fields.specs.Fields.{field_bit, last_bit, or_else}
-use Rattle.c6x_linked.specs.declared.limits.TheConstants.{TEXT_START}
-use Rattle.c6x_link_entries.proofs.Walks.{data_is, field_is}
-use Rattle.c6x_link_entries.specs.Entries.{IsIn, data_field, data_fields, dynamic_relas, entries_error, error_at, field_in, is_dynamic, is_dynamic_kind, rela_of, relas_at, shown}
-use Rattle.c6x_link_entries.specs.Rules.{entry_rule, is_fixed, is_word}
-use Rattle.c6x_link_entries.specs.declared.entry.Entry.{Entry}
-use Rattle.c6x_link_entries.specs.declared.reference.Reference.{Reference}
-use Rattle.c6x_link_images.proofs.ImageParts.{data_length}
-use Rattle.c6x_link_images.specs.Images.{data_image, text_image}
-use Rattle.c6x_link_images.specs.Worked.{IsWorkedOut, laying_in}
-use Rattle.c6x_link_images.specs.Words.{rela_on, stub_rela, stub_relas, word_rela, word_relas}
-use Rattle.c6x_link_targets.specs.LinkEntries.{link_entries}
-use Rattle.c6x_link_targets.specs.Working.{Working}
-use Rattle.c6x_link_targets.specs.Targets.{target_of}
+use Rattle.c6x_reloc.proofs.Steps.{last_both}
+use Rattle.c6x_reloc.specs.FieldBits.{field_bit, last_bit, or_else}
+use Rattle.c6x_layout.specs.declared.file_limits.TheConstants.{TEXT_START}
+use Rattle.c6x_symbols.proofs.Walks.{data_is, field_is}
+use Rattle.c6x_symbols.specs.LinkEntries.{IsIn, data_field, data_fields, dynamic_relas, entries_error, error_at, field_in, is_dynamic, is_dynamic_kind, rela_of, relas_at, shown}
+use Rattle.c6x_symbols.specs.EntryRules.{entry_rule, is_fixed, is_word}
+use Rattle.c6x_symbols.specs.declared.entry.Entry.{Entry}
+use Rattle.c6x_symbols.specs.declared.reference.Reference.{Reference}
+use Rattle.c6x_link.proofs.ImageParts.{data_length}
+use Rattle.c6x_link.specs.Images.{data_image, text_image}
+use Rattle.c6x_link.specs.Worked.{IsWorkedOut, laying_in}
+use Rattle.c6x_link.specs.Words.{rela_on, stub_rela, stub_relas, word_rela, word_relas}
+use Rattle.c6x_link.specs.LinkEntries.{link_entries}
+use Rattle.c6x_link.specs.Working.{Working}
+use Rattle.c6x_link.specs.Targets.{target_of}
 use Rattle.c6x_link.specs.Linked.{parts_of}
 use Rattle.c6x_link_loads.proofs.Laid.{is_laid}
 use Rattle.c6x_module.specs.declared.field.Field.{Field as Dynamic}
 use Rattle.c6x_module.specs.declared.module.Module.{Module}
-use Rattle.c6x_module_rules.specs.Fields.{field_of}
-use Rattle.c6x_bind.specs.declared.target.Target.{Target}
-use Rattle.c6x_moved.specs.Holds.{word_field}
-use Rattle.c6x_patched.specs.Patches.{loaded_fields}
+use Rattle.c6x_module.specs.Fields.{field_of}
+use Rattle.c6x_place.specs.declared.target.Target.{Target}
+use Rattle.c6x_relocated.specs.Holds.{word_field}
+use Rattle.c6x_relocated.specs.Patches.{loaded_fields}
 use Rattle.c6x_relocated.specs.Relocated.{is_filled}
 use Rattle.c6x_relocated.proofs.Basics.{got}
 use Rattle.c6x_relocated.proofs.Behind.{IsBehind, has_words}

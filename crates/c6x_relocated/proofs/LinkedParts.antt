@@ -2,13 +2,13 @@
 use Rattle.std.proofs.Common.{◌≡◌, ℕ, [], drop, map, Some, ap}
 use Rattle.std.specs.Prelude.{◌++◌, slice_get}
 use Rattle.c6x_elf.specs.Abi.{STT_SECTION}
-use Rattle.c6x_linked.specs.File.{data_segment, text_segment}
-use Rattle.c6x_linked.specs.declared.limits.TheConstants.{TEXT_START}
-use Rattle.c6x_linked.specs.declared.parts.Parts.{Parts}
-use Rattle.c6x_loads.specs.Loads.{fields_of_parts, module_of_parts, shared_symbol, symbols_of}
+use Rattle.c6x_layout.specs.File.{data_segment, text_segment}
+use Rattle.c6x_layout.specs.declared.file_limits.TheConstants.{TEXT_START}
+use Rattle.c6x_layout.specs.declared.parts.Parts.{Parts}
+use Rattle.c6x_link_loads.specs.Loads.{fields_of_parts, module_of_parts, shared_symbol, symbols_of}
 use Rattle.c6x_module.specs.declared.module.Module.{Module}
 use Rattle.c6x_module.specs.declared.symbol.DynSymbol.{DynSymbol}
-use Rattle.c6x_module_rules.specs.Fields.{fields_of}
+use Rattle.c6x_module.specs.Fields.{fields_of}
 use Rattle.c6x_relocated.specs.Relocated.{IsLinkedModule}
 
 -- the dynamic symbol of a segment

@@ -10,16 +10,16 @@ use Rattle.c6x_elf.specs.Attributes.{rela_kind}
 use Rattle.c6x_elf.specs.Types.{Rela}
 use Rattle.c6x_reloc.specs.Fields.{first_bit}
 use Rattle.c6x_reloc.specs.Table.{row_of}
-use Rattle.c6x_fields.proofs.Steps.{field_bit_inside, field_bit_outside, last_both}
-use Rattle.c6x_fields.specs.Fields.{field_bit, last_bit, lowest, or_else, width}
+use Rattle.c6x_reloc.proofs.Steps.{field_bit_inside, field_bit_outside, last_both}
+use Rattle.c6x_reloc.specs.FieldBits.{field_bit, last_bit, lowest, or_else, width}
 use Rattle.c6x_module.specs.declared.field.Field.{Field as Dynamic}
 use Rattle.c6x_module.specs.declared.module.Module.{Module}
-use Rattle.c6x_module_rules.specs.Fields.{field_of, fields_of}
-use Rattle.c6x_module_rules.specs.declared.fields.TheConstants.{R_C6000_NONE}
-use Rattle.c6x_bind.specs.declared.target.Target.{Target}
-use Rattle.c6x_fill.specs.Values.{field_value as word_of}
-use Rattle.c6x_moved.specs.Holds.{word_field}
-use Rattle.c6x_patched.specs.Patches.{filled_fields, loaded_fields, slot_fields}
+use Rattle.c6x_module.specs.Fields.{field_of, fields_of}
+use Rattle.c6x_module.specs.declared.fields.TheConstants.{R_C6000_NONE}
+use Rattle.c6x_place.specs.declared.target.Target.{Target}
+use Rattle.c6x_load.specs.Values.{field_value as word_of}
+use Rattle.c6x_relocated.specs.Holds.{word_field}
+use Rattle.c6x_relocated.specs.Patches.{filled_fields, loaded_fields, slot_fields}
 
 pub both_none : (a b : Option ℕ) → a ≡ None → b ≡ None → or_else a b ≡ None
 both_none a b first second = ap (λ o. or_else o b) first ∙ second

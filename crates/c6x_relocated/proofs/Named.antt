@@ -20,20 +20,20 @@ use Rattle.c6x_elf.specs.Types.{Symbol, SymbolBinding}
 use Rattle.c6x_elf.specs.declared.file.File.{File}
 use Rattle.c6x_elf.specs.declared.section.Section.{Section}
 use Rattle.c6x_layout.specs.Regions.{binding_region, bound_region, symbol_region, wanted_region}
-use Rattle.c6x_objects.specs.Entries.{file_entries}
-use Rattle.c6x_objects.specs.declared.object_entry.ObjectEntry.{ObjectEntry}
-use Rattle.c6x_objects.specs.declared.region.Region.TheVariants.{Absolute as Fixed, Import}
+use Rattle.c6x_symbols.specs.Entries.{file_entries}
+use Rattle.c6x_symbols.specs.declared.object_entry.ObjectEntry.{ObjectEntry}
+use Rattle.c6x_symbols.specs.declared.region.Region.TheVariants.{Absolute as Fixed, Import}
 use Rattle.c6x_plan.specs.declared.link_plan.LinkPlan.{LinkPlan}
 use Rattle.c6x_symbols.specs.Bindings.{BoundName, binding_in, bound_at, is_import, is_imported, name_in}
 use Rattle.c6x_symbols.specs.Mentions.{strings_of}
 use Rattle.c6x_symbols.specs.Names.{name_at}
 use Rattle.c6x_symbols.specs.declared.binding.Binding.{Binding}
 use Rattle.c6x_symbols.specs.declared.binding.Binding.TheVariants.{Common, Import as Imported, Strong, Table, Weak}
-use Rattle.c6x_link_entries.specs.declared.entry.Entry.{Entry}
-use Rattle.c6x_link_targets.specs.LinkEntries.{entry_on, file_link_entries, link_entries, link_entry}
-use Rattle.c6x_link_targets.specs.Targets.{import_symbol, number_of_bound, symbol_of_region, target_of}
-use Rattle.c6x_link_targets.specs.Working.{Working, laying_of, working_of}
-use Rattle.c6x_link_targets.specs.declared.target.Target.{Target}
+use Rattle.c6x_symbols.specs.declared.entry.Entry.{Entry}
+use Rattle.c6x_link.specs.LinkEntries.{entry_on, file_link_entries, link_entries, link_entry}
+use Rattle.c6x_link.specs.Targets.{import_symbol, number_of_bound, symbol_of_region, target_of}
+use Rattle.c6x_link.specs.Working.{Working, laying_of, working_of}
+use Rattle.c6x_link.specs.declared.target.Target.{Target}
 use Rattle.c6x_link.specs.Linked.{parts_of}
 use Rattle.c6x_link_loads.proofs.Imports.{IsImportAt, import_at, stubs_import}
 use Rattle.c6x_module.specs.declared.module.Module.{Module}

@@ -10,11 +10,11 @@ use Rattle.c6x_reloc.specs.Value.{less}
 use Rattle.c6x_reloc.specs.declared.inputs.Inputs.{Inputs}
 use Rattle.c6x_reloc.specs.declared.reloc_kind.RelocKind.TheVariants.{ABS32}
 use Rattle.c6x_module.specs.declared.module.Module.{Module}
-use Rattle.c6x_module_rules.specs.Fields.{field_of}
-use Rattle.c6x_module_rules.specs.declared.fields.TheConstants.{R_C6000_JUMP_SLOT, R_C6000_NONE}
-use Rattle.c6x_fill.specs.Values.{field_value as word_of, shift_of}
-use Rattle.c6x_shift.specs.Shift.{moved_by}
-use Rattle.c6x_moved.specs.Holds.{HoldsAt}
+use Rattle.c6x_module.specs.Fields.{field_of}
+use Rattle.c6x_module.specs.declared.fields.TheConstants.{R_C6000_JUMP_SLOT, R_C6000_NONE}
+use Rattle.c6x_load.specs.Values.{field_value as word_of, shift_of}
+use Rattle.c6x_reloc.specs.Shift.{moved_by}
+use Rattle.c6x_relocated.specs.Holds.{HoldsAt}
 use Rattle.c6x_relocated.specs.Filled.{Finding, definition_address}
 use Rattle.c6x_relocated.proofs.Basics.{double_mod}
 use Rattle.c6x_relocated.proofs.Words.{IsRead, word_holds}

@@ -12,12 +12,12 @@ use Rattle.c6x_reloc.specs.declared.reloc_kind.RelocKind.{RelocKind}
 use Rattle.c6x_reloc.specs.declared.reloc_kind.RelocKind.TheVariants.{NONE, ABS32, ABS16, ABS8, PCR_S21, PCR_S12, PCR_S7, ABS_S16, ABS_L16, ABS_H16, SBR_U15_B, SBR_U15_H, SBR_U15_W, SBR_S16, SBR_L16_B, SBR_L16_H, SBR_L16_W, SBR_H16_B, SBR_H16_H, SBR_H16_W, SBR_GOT_U15_W, SBR_GOT_L16_W, SBR_GOT_H16_W, DSBT_INDEX, JUMP_SLOT, ALIGN, FPHEAD, NOCMP}
 use Rattle.c6x_symbols.specs.declared.link_rule.LinkRule.{LinkRule}
 use Rattle.c6x_symbols.specs.declared.link_rule.LinkRule.TheVariants.{GotAddend, TextAbsolute, CrossSegment, PlaceOutside, RelocKind as NoKind}
-use Rattle.c6x_link_entries.specs.Entries.{broken, entries_error, error_at, is_dynamic, is_dynamic_kind}
-use Rattle.c6x_link_entries.specs.Rules.{◌<|>◌, must, entry_rule, has_no_addend, is_fixed, is_inside, is_slot, is_word, kind_rule, may_move, origin_rule, reaches, rule_with, value_rule}
-use Rattle.c6x_link_entries.specs.declared.entry.Entry.{Entry}
-use Rattle.c6x_link_entries.specs.declared.reference.Reference.{Reference}
-use Rattle.c6x_moved.specs.Moved.{is_static}
-use Rattle.c6x_shift.specs.Shift.{origin_of}
+use Rattle.c6x_symbols.specs.LinkEntries.{broken, entries_error, error_at, is_dynamic, is_dynamic_kind}
+use Rattle.c6x_symbols.specs.EntryRules.{◌<|>◌, must, entry_rule, has_no_addend, is_fixed, is_inside, is_slot, is_word, kind_rule, may_move, origin_rule, reaches, rule_with, value_rule}
+use Rattle.c6x_symbols.specs.declared.entry.Entry.{Entry}
+use Rattle.c6x_symbols.specs.declared.reference.Reference.{Reference}
+use Rattle.c6x_relocated.specs.Moved.{is_static}
+use Rattle.c6x_reloc.specs.Shift.{origin_of}
 use Rattle.c6x_relocated.proofs.Basics.{map_none}
 
 pub later : {A : Type 0} (a b : Option A) → (a <|> b) ≡ None → b ≡ None

@@ -2,16 +2,16 @@
 use Rattle.std.proofs.Common.{◌≡◌, ◌⊎◌, inl, inr, ℕ, ◌+◌, ◌≤◌, ◌==◌, ◌||◌, Bool, true, false, if◌then◌else◌, List, None, Some, refl, ap, ◌∙◌, arith}
 use Rattle.std.specs.Prelude.{slice_get}
 use Rattle.std.proofs.lemmas.Bool.Decides.{nat_tests}
-use Rattle.c6x_elf_entries.specs.Attributes.{info_binding, section_class}
+use Rattle.c6x_elf_headers.specs.Attributes.{info_binding, section_class}
 use Rattle.c6x_module.specs.Lookups.{is_own, is_weak_symbol}
 use Rattle.c6x_module.specs.Valid.{IsValid}
 use Rattle.c6x_module.specs.declared.module.Module.{Module}
 use Rattle.c6x_module.specs.declared.symbol.DynSymbol.{DynSymbol}
-use Rattle.c6x_bind.specs.Definitions.{class_target, field_found, field_target, field_value, first_export, found_target, inside, is_in_or_at_end, member_target, number_target, or_weak, symbol_found, symbol_target, target_or_zero}
-use Rattle.c6x_bind.specs.declared.found.Found.TheVariants.{At, Nothing}
-use Rattle.c6x_bind.specs.declared.target.Target.TheVariants.{Inside}
-use Rattle.c6x_fill.specs.Values.{is_within, member_address, moved, moved_by as moved_from, shift_of, symbol_moved, target_address, text_at, value_moved}
-use Rattle.c6x_shift.specs.Shift.{moved_by}
+use Rattle.c6x_place.specs.Definitions.{class_target, field_found, field_target, field_value, first_export, found_target, inside, is_in_or_at_end, member_target, number_target, or_weak, symbol_found, symbol_target, target_or_zero}
+use Rattle.c6x_place.specs.declared.found.Found.TheVariants.{At, Nothing}
+use Rattle.c6x_place.specs.declared.target.Target.TheVariants.{Inside}
+use Rattle.c6x_load.specs.Values.{is_within, member_address, moved, moved_by as moved_from, shift_of, symbol_moved, target_address, text_at, value_moved}
+use Rattle.c6x_reloc.specs.Shift.{moved_by}
 use Rattle.c6x_relocated.specs.Filled.{Finding, IsMember, address_in, definition_address, word_on}
 use Rattle.c6x_relocated.proofs.LinkedParts.{segment_symbol}
 

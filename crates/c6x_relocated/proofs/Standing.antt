@@ -14,16 +14,16 @@ use Rattle.c6x_elf.specs.declared.segment.Segment.{Segment}
 use Rattle.c6x_reloc.specs.Fields.{HoldsValue, SetsField, first_bit}
 use Rattle.c6x_reloc.specs.Table.{row_of}
 use Rattle.c6x_reloc.specs.declared.reloc_kind.RelocKind.{RelocKind}
-use Rattle.c6x_fields.proofs.Bytes.{inside_is, patched_length}
-use Rattle.c6x_fields.proofs.Held.{field_held, last_is}
-use Rattle.c6x_fields.proofs.RowFacts.{row_within}
-use Rattle.c6x_fields.proofs.Steps.{last_both, one_set, or_bit_else}
-use Rattle.c6x_fields.specs.Fields.{AreBytes, IsLast, IsPatchedBy, last_bit, lowest, or_bit, patched, width}
-use Rattle.c6x_fields.specs.declared.field.Field.{Field}
-use Rattle.c6x_linked.specs.File.{data_segment, text_bytes, text_parts, text_segment}
-use Rattle.c6x_linked.specs.declared.parts.Parts.{Parts}
-use Rattle.c6x_fill.specs.Values.{filled}
-use Rattle.c6x_moved.proofs.Held.{on_board, same_held}
+use Rattle.c6x_reloc.proofs.Bytes.{inside_is, patched_length}
+use Rattle.c6x_reloc.proofs.Held.{field_held, last_is}
+use Rattle.c6x_reloc.proofs.RowFacts.{row_within}
+use Rattle.c6x_reloc.proofs.Steps.{last_both, one_set, or_bit_else}
+use Rattle.c6x_reloc.specs.FieldBits.{AreBytes, IsLast, IsPatchedBy, last_bit, lowest, or_bit, patched, width}
+use Rattle.c6x_reloc.specs.declared.field.Field.{Field}
+use Rattle.c6x_layout.specs.File.{data_segment, text_bytes, text_parts, text_segment}
+use Rattle.c6x_layout.specs.declared.parts.Parts.{Parts}
+use Rattle.c6x_load.specs.Values.{filled}
+use Rattle.c6x_relocated.proofs.Held.{on_board, same_held}
 
 -- bytes with zeros behind them are bytes
 pub with_zeros : (bytes : List ℕ) (n : ℕ) → AreBytes bytes → AreBytes (bytes ++ replicate n 0)

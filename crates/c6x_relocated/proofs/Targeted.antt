@@ -11,12 +11,12 @@ use Rattle.c6x_elf.specs.Types.{SectionClass, Symbol}
 use Rattle.c6x_elf.specs.declared.file.File.{File}
 use Rattle.c6x_elf.specs.declared.section.Section.{Section}
 use Rattle.c6x_layout.specs.Regions.{binding_region, bound_region, class_region, region_of_section, region_of_symbol, section_region, symbol_in, symbol_region, wanted_region, zone_region}
-use Rattle.c6x_linked.specs.declared.limits.TheConstants.{TEXT_START}
-use Rattle.c6x_objects.specs.Sections.{is_allocated, zone_of}
-use Rattle.c6x_objects.specs.declared.object_entry.ObjectEntry.{ObjectEntry}
-use Rattle.c6x_objects.specs.declared.region.Region.TheVariants.{Absolute, Data, Import, Text}
-use Rattle.c6x_objects.specs.declared.zone.Zone.{Zone}
-use Rattle.c6x_objects.specs.declared.zone.Zone.TheVariants.{Far, Near, Text as TextZone}
+use Rattle.c6x_layout.specs.declared.file_limits.TheConstants.{TEXT_START}
+use Rattle.c6x_symbols.specs.Sections.{is_allocated, zone_of}
+use Rattle.c6x_symbols.specs.declared.object_entry.ObjectEntry.{ObjectEntry}
+use Rattle.c6x_symbols.specs.declared.region.Region.TheVariants.{Absolute, Data, Import, Text}
+use Rattle.c6x_symbols.specs.declared.zone.Zone.{Zone}
+use Rattle.c6x_symbols.specs.declared.zone.Zone.TheVariants.{Far, Near, Text as TextZone}
 use Rattle.c6x_reloc.specs.Table.{kind_or, row_of}
 use Rattle.c6x_reloc.specs.declared.reloc_error.RelocError.{RelocError}
 use Rattle.c6x_reloc.specs.declared.reloc_kind.RelocKind.{RelocKind}
@@ -24,14 +24,14 @@ use Rattle.c6x_reloc.specs.declared.reloc_kind.RelocKind.TheVariants.{NONE, ABS3
 use Rattle.c6x_symbols.specs.Bindings.{binding_in, bound_at}
 use Rattle.c6x_symbols.specs.declared.binding.Binding.{Binding}
 use Rattle.c6x_symbols.specs.declared.binding.Binding.TheVariants.{Common, Import as Imported, Strong, Table, Weak}
-use Rattle.c6x_link_entries.specs.Entries.{is_dynamic_kind}
-use Rattle.c6x_link_entries.specs.Rules.{is_word}
-use Rattle.c6x_link_entries.specs.declared.entry.Entry.{Entry}
-use Rattle.c6x_link_targets.specs.Addresses.{binding_address, bound_address, symbol_address, wanted_address}
-use Rattle.c6x_link_targets.specs.LinkEntries.{entry_on, kind_of_entry, link_entries, link_entry, ok_kind}
-use Rattle.c6x_link_targets.specs.Targets.{dynamic_start, number_of_bound, symbol_of_region, target_of}
-use Rattle.c6x_link_targets.specs.Working.{Working}
-use Rattle.c6x_link_targets.specs.declared.target.Target.{Target}
+use Rattle.c6x_symbols.specs.LinkEntries.{is_dynamic_kind}
+use Rattle.c6x_symbols.specs.EntryRules.{is_word}
+use Rattle.c6x_symbols.specs.declared.entry.Entry.{Entry}
+use Rattle.c6x_link.specs.Addresses.{binding_address, bound_address, symbol_address, wanted_address}
+use Rattle.c6x_link.specs.LinkEntries.{entry_on, kind_of_entry, link_entries, link_entry, ok_kind}
+use Rattle.c6x_link.specs.Targets.{dynamic_start, number_of_bound, symbol_of_region, target_of}
+use Rattle.c6x_link.specs.Working.{Working}
+use Rattle.c6x_link.specs.declared.target.Target.{Target}
 use Rattle.c6x_link.proofs.EachEntry.{all_entries}
 use Rattle.c6x_relocated.proofs.Basics.{of_one}
 

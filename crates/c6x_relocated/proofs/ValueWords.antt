@@ -9,31 +9,31 @@ use Rattle.c6x_elf.specs.Attributes.{rela_kind, rela_symbol}
 use Rattle.c6x_elf.specs.Types.{Rela}
 use Rattle.c6x_layout.specs.Dynamics.{is_filled_word}
 use Rattle.c6x_layout.specs.Regions.{moves, wanted_region}
-use Rattle.c6x_objects.specs.declared.region.Region.{Region}
-use Rattle.c6x_objects.specs.declared.region.Region.TheVariants.{Absolute as Fixed, Data, Import, Text}
+use Rattle.c6x_symbols.specs.declared.region.Region.{Region}
+use Rattle.c6x_symbols.specs.declared.region.Region.TheVariants.{Absolute as Fixed, Data, Import, Text}
 use Rattle.c6x_reloc.specs.Table.{row_of}
 use Rattle.c6x_reloc.specs.Value.{less}
 use Rattle.c6x_reloc.specs.declared.origin.Origin.TheVariants.{Absolute}
 use Rattle.c6x_reloc.specs.declared.reloc_kind.RelocKind.TheVariants.{ABS32}
-use Rattle.c6x_linked.specs.File.{text_bytes}
-use Rattle.c6x_linked.specs.declared.limits.TheConstants.{TEXT_START}
-use Rattle.c6x_linked.specs.declared.parts.Parts.{Parts}
-use Rattle.c6x_link_entries.specs.Entries.{dynamic_relas}
-use Rattle.c6x_link_entries.specs.Rules.{is_fixed}
-use Rattle.c6x_link_images.specs.Words.{rela_on, stub_rela, stub_relas, word_rela, word_relas}
-use Rattle.c6x_link_targets.specs.LinkEntries.{link_entries}
-use Rattle.c6x_link_targets.specs.Targets.{import_symbol, target_of}
-use Rattle.c6x_link_targets.specs.Working.{Working}
-use Rattle.c6x_link_targets.specs.declared.target.Target.{Target}
+use Rattle.c6x_layout.specs.File.{text_bytes}
+use Rattle.c6x_layout.specs.declared.file_limits.TheConstants.{TEXT_START}
+use Rattle.c6x_layout.specs.declared.parts.Parts.{Parts}
+use Rattle.c6x_symbols.specs.LinkEntries.{dynamic_relas}
+use Rattle.c6x_symbols.specs.EntryRules.{is_fixed}
+use Rattle.c6x_link.specs.Words.{rela_on, stub_rela, stub_relas, word_rela, word_relas}
+use Rattle.c6x_link.specs.LinkEntries.{link_entries}
+use Rattle.c6x_link.specs.Targets.{import_symbol, target_of}
+use Rattle.c6x_link.specs.Working.{Working}
+use Rattle.c6x_link.specs.declared.target.Target.{Target}
 use Rattle.c6x_link.specs.Linked.{parts_of}
 use Rattle.c6x_module.specs.declared.field.Field.{Field}
 use Rattle.c6x_module.specs.declared.module.Module.{Module}
-use Rattle.c6x_module_rules.specs.Fields.{field_of, fields_of}
-use Rattle.c6x_module_rules.specs.declared.fields.TheConstants.{R_C6000_JUMP_SLOT, R_C6000_NONE}
-use Rattle.c6x_fill.specs.Values.{field_value as word_of, shift_of, slot_word}
-use Rattle.c6x_shift.specs.Shift.{moved_by}
-use Rattle.c6x_moved.specs.Holds.{HoldsAt}
-use Rattle.c6x_moved.specs.Moved.{moved_symbol}
+use Rattle.c6x_module.specs.Fields.{field_of, fields_of}
+use Rattle.c6x_module.specs.declared.fields.TheConstants.{R_C6000_JUMP_SLOT, R_C6000_NONE}
+use Rattle.c6x_load.specs.Values.{field_value as word_of, shift_of, slot_word}
+use Rattle.c6x_reloc.specs.Shift.{moved_by}
+use Rattle.c6x_relocated.specs.Holds.{HoldsAt}
+use Rattle.c6x_relocated.specs.Moved.{moved_symbol}
 use Rattle.c6x_relocated.specs.Filled.{Finding, IsMember, address_in, definition_address, targets_in}
 use Rattle.c6x_relocated.specs.Relocated.{Stands, shifts_of}
 use Rattle.c6x_relocated.specs.ValueWords.{word_inputs}

@@ -15,17 +15,17 @@ use Rattle.c6x_reloc.specs.declared.reloc_kind.RelocKind.TheVariants.{ABS32}
 use Rattle.c6x_module.specs.Valid.{IsInside}
 use Rattle.c6x_module.specs.declared.field.Field.{Field}
 use Rattle.c6x_module.specs.declared.module.Module.{Module}
-use Rattle.c6x_module_rules.specs.Fields.{field_of, fields_of}
-use Rattle.c6x_module_rules.specs.declared.fields.TheConstants.{R_C6000_NONE}
-use Rattle.c6x_bind.specs.Definitions.{field_found, field_target, field_value}
-use Rattle.c6x_bind.specs.declared.target.Target.{Target}
-use Rattle.c6x_fill.proofs.ReadBack.{read_back}
-use Rattle.c6x_fill.specs.Reads.{place_at}
-use Rattle.c6x_fill.specs.Values.{field_value as word_of, shift_of, slot_word}
-use Rattle.c6x_shift.specs.Shift.{moved_by}
-use Rattle.c6x_moved.proofs.Word.{abs32_is}
-use Rattle.c6x_moved.proofs.Words.{shift_place}
-use Rattle.c6x_moved.specs.Holds.{HoldsAt}
+use Rattle.c6x_module.specs.Fields.{field_of, fields_of}
+use Rattle.c6x_module.specs.declared.fields.TheConstants.{R_C6000_NONE}
+use Rattle.c6x_place.specs.Definitions.{field_found, field_target, field_value}
+use Rattle.c6x_place.specs.declared.target.Target.{Target}
+use Rattle.c6x_load.proofs.ReadBack.{read_back}
+use Rattle.c6x_load.specs.Reads.{place_at}
+use Rattle.c6x_load.specs.Values.{field_value as word_of, shift_of, slot_word}
+use Rattle.c6x_reloc.specs.Shift.{moved_by}
+use Rattle.c6x_relocated.proofs.Word.{abs32_is}
+use Rattle.c6x_relocated.proofs.MovedWords.{shift_place}
+use Rattle.c6x_relocated.specs.Holds.{HoldsAt}
 use Rattle.c6x_relocated.specs.Filled.{Finding, address_in, definition_address, targets_in}
 use Rattle.c6x_relocated.specs.Relocated.{Stands}
 

@@ -3,22 +3,22 @@ use Rattle.std.specs.Prelude.{◌≡◌, ℕ, ◌+◌, ◌^◌, ◌<◌, false, 
 use Rattle.c6x_spec.specs.Memory.{Memory}
 use Rattle.c6x_elf.specs.declared.file.File.{File}
 use Rattle.c6x_plan.specs.declared.link_plan.LinkPlan.{LinkPlan}
-use Rattle.c6x_objects.specs.Objects.{IsObject}
+use Rattle.c6x_symbols.specs.Objects.{IsObject}
 use Rattle.c6x_reloc.specs.declared.origin.Origin.TheVariants.{Absolute}
 use Rattle.c6x_reloc.specs.declared.reloc_kind.RelocKind.TheVariants.{ABS32}
-use Rattle.c6x_link_entries.specs.Entries.{is_dynamic}
-use Rattle.c6x_link_entries.specs.declared.entry.Entry.{Entry}
-use Rattle.c6x_link_targets.specs.LinkEntries.{link_entries}
-use Rattle.c6x_link_targets.specs.Working.{working_of}
+use Rattle.c6x_symbols.specs.LinkEntries.{is_dynamic}
+use Rattle.c6x_symbols.specs.declared.entry.Entry.{Entry}
+use Rattle.c6x_link.specs.LinkEntries.{link_entries}
+use Rattle.c6x_link.specs.Working.{working_of}
 use Rattle.c6x_link.specs.Linked.{link_refusal, parts_of}
 use Rattle.c6x_module.specs.declared.field.Field.{Field}
 use Rattle.c6x_module.specs.declared.module.Module.{Module}
-use Rattle.c6x_bind.specs.Definitions.{field_value}
-use Rattle.c6x_bind.specs.declared.target.Target.{Target}
-use Rattle.c6x_fill.specs.Values.{shift_of, slot_word, target_address, text_at}
-use Rattle.c6x_shift.specs.Shift.{moved_by}
-use Rattle.c6x_moved.specs.Holds.{HoldsAt}
-use Rattle.c6x_moved.specs.Moved.{moved_inputs}
+use Rattle.c6x_place.specs.Definitions.{field_value}
+use Rattle.c6x_place.specs.declared.target.Target.{Target}
+use Rattle.c6x_load.specs.Values.{shift_of, slot_word, target_address, text_at}
+use Rattle.c6x_reloc.specs.Shift.{moved_by}
+use Rattle.c6x_relocated.specs.Holds.{HoldsAt}
+use Rattle.c6x_relocated.specs.Moved.{moved_inputs}
 use Rattle.c6x_relocated.specs.Relocated.{IsLinkedModule, Stands, shifts_of}
 
 -- Where a process finds definitions: the modules of its plan, its search list, and where the texts and its data ranges

@@ -1,5 +1,10 @@
+pub mod Moved
+pub mod Holds
+pub mod Patches
 pub mod Relocated
 pub mod Filled
 pub mod Entries
 pub mod ValueWords
 pub mod Named
+pub mod Plans
+pub mod RelocatedPlans

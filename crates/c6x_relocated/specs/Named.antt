@@ -2,16 +2,16 @@
 use Rattle.std.specs.Prelude.{◌≡◌, ℕ, ◌<◌, true, List, ◌∷◌, ◌++◌, Some, length, slice_get}
 use Rattle.c6x_dsbt.specs.declared.wanted.Wanted.{Wanted}
 use Rattle.c6x_elf.specs.declared.file.File.{File}
-use Rattle.c6x_objects.specs.declared.region.Region.TheVariants.{Import}
+use Rattle.c6x_symbols.specs.declared.region.Region.TheVariants.{Import}
 use Rattle.c6x_plan.specs.declared.link_plan.LinkPlan.{LinkPlan}
 use Rattle.c6x_symbols.specs.Bindings.{bound_at, is_imported}
-use Rattle.c6x_link_entries.specs.declared.entry.Entry.{Entry}
-use Rattle.c6x_link_targets.specs.LinkEntries.{link_entries}
-use Rattle.c6x_link_targets.specs.Targets.{import_symbol, target_of}
-use Rattle.c6x_link_targets.specs.Working.{Working, working_of}
+use Rattle.c6x_symbols.specs.declared.entry.Entry.{Entry}
+use Rattle.c6x_link.specs.LinkEntries.{link_entries}
+use Rattle.c6x_link.specs.Targets.{import_symbol, target_of}
+use Rattle.c6x_link.specs.Working.{Working, working_of}
 use Rattle.c6x_link.specs.Linked.{parts_of}
 use Rattle.c6x_module.specs.declared.module.Module.{Module}
-use Rattle.c6x_bind.specs.Definitions.{first_export, found_target, target_or_zero}
+use Rattle.c6x_place.specs.Definitions.{first_export, found_target, target_or_zero}
 use Rattle.c6x_relocated.specs.Filled.{Finding, address_in, definition_address}
 use Rattle.c6x_relocated.specs.Relocated.{IsLinkedModule}
 

@@ -4,27 +4,27 @@ use Rattle.c6x_spec.specs.Memory.{IsOnMemory, Memory}
 use Rattle.c6x_spec.specs.Parts.{HoldsPart}
 use Rattle.c6x_elf.specs.declared.file.File.{File}
 use Rattle.c6x_plan.specs.declared.link_plan.LinkPlan.{LinkPlan}
-use Rattle.c6x_objects.specs.Objects.{IsObject}
+use Rattle.c6x_symbols.specs.Objects.{IsObject}
 use Rattle.c6x_reloc.specs.Fields.{first_bit}
 use Rattle.c6x_reloc.specs.Table.{row_of}
 use Rattle.c6x_reloc.specs.declared.origin.Origin.TheVariants.{Nothing}
 use Rattle.c6x_reloc.specs.declared.reloc_kind.RelocKind.{RelocKind}
-use Rattle.c6x_fields.specs.Fields.{last_bit}
-use Rattle.c6x_fields.specs.declared.field.Field.{Field}
-use Rattle.c6x_linked.specs.declared.parts.Parts.{Parts}
-use Rattle.c6x_link_entries.specs.Entries.{data_fields, is_dynamic, text_fields}
-use Rattle.c6x_link_entries.specs.declared.entry.Entry.{Entry}
-use Rattle.c6x_link_targets.specs.LinkEntries.{link_entries}
-use Rattle.c6x_link_targets.specs.Working.{working_of}
+use Rattle.c6x_reloc.specs.FieldBits.{last_bit}
+use Rattle.c6x_reloc.specs.declared.field.Field.{Field}
+use Rattle.c6x_layout.specs.declared.parts.Parts.{Parts}
+use Rattle.c6x_symbols.specs.LinkEntries.{data_fields, is_dynamic, text_fields}
+use Rattle.c6x_symbols.specs.declared.entry.Entry.{Entry}
+use Rattle.c6x_link.specs.LinkEntries.{link_entries}
+use Rattle.c6x_link.specs.Working.{working_of}
 use Rattle.c6x_link.specs.Linked.{link_refusal, parts_of}
-use Rattle.c6x_loads.specs.Loads.{module_of_parts}
+use Rattle.c6x_link_loads.specs.Loads.{module_of_parts}
 use Rattle.c6x_module.specs.Valid.{IsValid}
 use Rattle.c6x_module.specs.declared.module.Module.{Module}
-use Rattle.c6x_bind.specs.declared.target.Target.{Target}
-use Rattle.c6x_fill.specs.Values.{data_image, filled, shift_of}
-use Rattle.c6x_shift.specs.Shift.{origin_of}
-use Rattle.c6x_moved.specs.Holds.{HoldsAt}
-use Rattle.c6x_moved.specs.Moved.{Shifts, moved_inputs, moved_place}
+use Rattle.c6x_place.specs.declared.target.Target.{Target}
+use Rattle.c6x_load.specs.Values.{data_image, filled, shift_of}
+use Rattle.c6x_reloc.specs.Shift.{origin_of}
+use Rattle.c6x_relocated.specs.Holds.{HoldsAt}
+use Rattle.c6x_relocated.specs.Moved.{Shifts, moved_inputs, moved_place}
 
 -- A module is the one that the file of the parts of a link is read as.
 pub record IsLinkedModule (p : Parts) (m : Module) : Type 0 where

@@ -3,19 +3,19 @@ use Rattle.std.specs.Prelude.{◌≡◌, ℕ, ◌+◌, ◌*◌, ◌^◌, ◌<◌
 use Rattle.c6x_spec.specs.Memory.{Memory}
 use Rattle.c6x_dsbt.specs.declared.wanted.Wanted.{Wanted}
 use Rattle.c6x_elf.specs.declared.file.File.{File}
-use Rattle.c6x_objects.specs.Objects.{IsObject}
+use Rattle.c6x_symbols.specs.Objects.{IsObject}
 use Rattle.c6x_plan.specs.declared.link_plan.LinkPlan.{LinkPlan}
 use Rattle.c6x_reloc.specs.declared.inputs.Inputs.{Inputs}
 use Rattle.c6x_reloc.specs.declared.origin.Origin.TheVariants.{Absolute}
 use Rattle.c6x_reloc.specs.declared.reloc_kind.RelocKind.TheVariants.{ABS32}
-use Rattle.c6x_link_targets.specs.Targets.{import_symbol, target_of}
-use Rattle.c6x_link_targets.specs.Working.{Working, working_of}
+use Rattle.c6x_link.specs.Targets.{import_symbol, target_of}
+use Rattle.c6x_link.specs.Working.{Working, working_of}
 use Rattle.c6x_link.specs.Linked.{link_refusal, parts_of}
 use Rattle.c6x_module.specs.declared.module.Module.{Module}
-use Rattle.c6x_fill.specs.Values.{shift_of, slot_word}
-use Rattle.c6x_shift.specs.Shift.{moved_by}
-use Rattle.c6x_moved.specs.Holds.{HoldsAt}
-use Rattle.c6x_moved.specs.Moved.{moved_symbol}
+use Rattle.c6x_load.specs.Values.{shift_of, slot_word}
+use Rattle.c6x_reloc.specs.Shift.{moved_by}
+use Rattle.c6x_relocated.specs.Holds.{HoldsAt}
+use Rattle.c6x_relocated.specs.Moved.{moved_symbol}
 use Rattle.c6x_relocated.specs.Filled.{Finding, IsMember, address_in, definition_address, targets_in}
 use Rattle.c6x_relocated.specs.Relocated.{IsLinkedModule, Stands, shifts_of}
 

@@ -16,9 +16,9 @@ use Rattle.c6x_exec.proofs.Standing.{stands_elsewhere}
 use Rattle.c6x_exec.proofs.Loads.{lie_sized}
 use Rattle.c6x_sched.specs.Ran.{HasRunOn, IsTurned}
 use Rattle.c6x_sched.proofs.At.{Found, found_at}
-use Rattle.c6x_processes.specs.Together.{AllStand, AreApart, AllLieOn}
-use Rattle.c6x_policy.specs.Picks.{effective_process, effective_steps}
-use Rattle.c6x_policy.specs.declared.pick.Pick.{Pick}
+use Rattle.c6x_sched.specs.Together.{AllStand, AreApart, AllLieOn}
+use Rattle.c6x_ports.specs.Picks.{effective_process, effective_steps}
+use Rattle.c6x_ports.specs.declared.pick.Pick.{Pick}
 use Rattle.c6x_sched.specs.declared.system.System.{System}
 use Rattle.c6x_sched.specs.declared.turn.Turn.{Turn}
 use Rattle.c6x_sched.specs.Step.{IsTurnOf}

@@ -8,8 +8,8 @@ use Rattle.c6x_machine.specs.Origin.{Origin}
 use Rattle.c6x_machine.specs.declared.end.End.{End}
 use Rattle.c6x_exec.specs.Process.{ended_of, StandsFor}
 use Rattle.c6x_exec.specs.declared.process.Process.{Process}
-use Rattle.c6x_policy.specs.Picks.{IsReady}
-use Rattle.c6x_processes.specs.Together.{AllStand}
+use Rattle.c6x_ports.specs.Picks.{IsReady}
+use Rattle.c6x_sched.specs.Together.{AllStand}
 use Rattle.c6x_sched.specs.Ended.{HasEnded, AllEnded}
 use Rattle.c6x_sched.specs.Laws.{IsRunning}
 use Rattle.c6x_sched.proofs.At.{Found, found_at}

@@ -11,11 +11,11 @@ use Rattle.c6x_exec.specs.Fits.{IsFramed}
 use Rattle.c6x_exec.specs.Process.{areas_of, StandsFor}
 use Rattle.c6x_exec.specs.declared.process.Process.{Process}
 use Rattle.c6x_exec.proofs.Standing.{life_done, stands_within, has_run}
-use Rattle.c6x_policy.specs.Chooser.{Chooser}
-use Rattle.c6x_policy.specs.Picks.{is_named, pick_of, effective_process, effective_steps}
-use Rattle.c6x_policy.specs.declared.kind.Kind.{Kind}
-use Rattle.c6x_policy.specs.declared.pick.Pick.{Pick}
-use Rattle.c6x_processes.specs.Together.{AllStand, AreApart, AreFramed}
+use Rattle.c6x_ports.specs.Chooser.{Chooser}
+use Rattle.c6x_ports.specs.Picks.{is_named, pick_of, effective_process, effective_steps}
+use Rattle.c6x_ports.specs.declared.kind.Kind.{Kind}
+use Rattle.c6x_ports.specs.declared.pick.Pick.{Pick}
+use Rattle.c6x_sched.specs.Together.{AllStand, AreApart, AreFramed}
 use Rattle.c6x_sched.specs.declared.system.System.{System}
 use Rattle.c6x_sched.specs.declared.turn.Turn.{Turn}
 use Rattle.c6x_sched.specs.Ended.{HasEnded, AllHaveLived}

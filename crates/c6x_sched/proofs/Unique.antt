@@ -2,8 +2,8 @@
 use Rattle.std.proofs.Common.{◌≡◌, ◌∙◌, ◌<◌, ◌≤◌, ℕ, zero, suc, List, [], ◌∷◌, length, refl, sym, ap, subst, arith, min, ◌-◌, ◌⊎◌, inl, inr}
 use Rattle.std.specs.Prelude.{IsTrue}
 use Rattle.c6x_machine.specs.Machine.{life}
-use Rattle.c6x_policy.specs.Picks.{is_named, pick_of, effective_process, effective_steps}
-use Rattle.c6x_policy.specs.declared.pick.Pick.{Pick}
+use Rattle.c6x_ports.specs.Picks.{is_named, pick_of, effective_process, effective_steps}
+use Rattle.c6x_ports.specs.declared.pick.Pick.{Pick}
 use Rattle.c6x_sched.specs.Left.{turn_of, own_turn}
 use Rattle.c6x_sched.specs.Play.{Game, Played, IsNext, IsPlay, IsOver, counts_of, open_of, state_of}
 

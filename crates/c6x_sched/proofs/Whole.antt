@@ -9,8 +9,8 @@ use Rattle.c6x_spec.specs.Memory.{Memory}
 use Rattle.c6x_machine.specs.Machine.{alone, life}
 use Rattle.c6x_machine.specs.Origin.{Origin}
 use Rattle.c6x_exec.specs.declared.process.Process.{Process}
-use Rattle.c6x_policy.specs.Picks.{is_named}
-use Rattle.c6x_policy.proofs.Found.{next_among}
+use Rattle.c6x_ports.specs.Picks.{is_named}
+use Rattle.c6x_ports.proofs.ReadyFound.{next_among}
 use Rattle.c6x_sched.specs.Left.{own_turn, cycles_from, played_behind, whole_play, left}
 use Rattle.c6x_sched.specs.Play.{Game, Played, IsNext, IsPlay, IsOver, HasPlayed, counts_of, open_of, state_of}
 use Rattle.c6x_sched.specs.Turns.{open_from, moved}

@@ -4,7 +4,7 @@ use Rattle.std.specs.List.{Contains}
 use Rattle.c6x_spec.specs.Memory.{Memory}
 use Rattle.c6x_exec.specs.Process.{ended_of}
 use Rattle.c6x_exec.specs.declared.process.Process.{Process}
-use Rattle.c6x_policy.specs.Picks.{is_named}
+use Rattle.c6x_ports.specs.Picks.{is_named}
 use Rattle.c6x_sched.specs.Left.{whole_play, left}
 use Rattle.c6x_sched.specs.Play.{Game, Played, IsPlay, IsOver, HasPlayed}
 use Rattle.c6x_sched.specs.Turns.{ready_of}

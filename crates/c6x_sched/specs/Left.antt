@@ -2,8 +2,8 @@
 use Rattle.std.specs.Prelude.{ℕ, zero, suc, ◌+◌, ◌-◌, ◌==◌, List, [], ◌∷◌, length, min, if◌then◌else◌}
 use Rattle.c6x_machine.specs.Machine.{life}
 use Rattle.c6x_machine.specs.Origin.{Origin}
-use Rattle.c6x_policy.specs.Picks.{pick_of, effective_process, effective_steps}
-use Rattle.c6x_policy.specs.declared.pick.Pick.{Pick}
+use Rattle.c6x_ports.specs.Picks.{pick_of, effective_process, effective_steps}
+use Rattle.c6x_ports.specs.declared.pick.Pick.{Pick}
 use Rattle.c6x_sched.specs.Play.{Game, Played, counts_of, open_of, state_of}
 
 -- The turn that a pick stands for behind some turns.

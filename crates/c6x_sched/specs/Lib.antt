@@ -1,3 +1,4 @@
+pub mod Together
 pub mod System
 pub mod Turns
 pub mod Ended

@@ -4,11 +4,11 @@ use Rattle.c6x_spec.specs.Memory.{Memory}
 use Rattle.c6x_machine.specs.Machine.{life}
 use Rattle.c6x_machine.specs.Origin.{Origin}
 use Rattle.c6x_exec.specs.declared.process.Process.{Process}
-use Rattle.c6x_policy.specs.Chooser.{Chooser}
-use Rattle.c6x_policy.specs.Picks.{is_named, pick_of, effective_process, effective_steps}
-use Rattle.c6x_policy.specs.declared.kind.Kind.{Kind}
-use Rattle.c6x_policy.specs.declared.pick.Pick.{Pick}
-use Rattle.c6x_processes.specs.Together.{AllStand}
+use Rattle.c6x_ports.specs.Chooser.{Chooser}
+use Rattle.c6x_ports.specs.Picks.{is_named, pick_of, effective_process, effective_steps}
+use Rattle.c6x_ports.specs.declared.kind.Kind.{Kind}
+use Rattle.c6x_ports.specs.declared.pick.Pick.{Pick}
+use Rattle.c6x_sched.specs.Together.{AllStand}
 use Rattle.c6x_sched.specs.Turns.{open_from, moved}
 
 -- A turn that was done: which process ran, for how many cycles.

@@ -6,10 +6,10 @@ use Rattle.c6x_machine.specs.Origin.{Origin}
 use Rattle.c6x_exec.specs.Fits.{IsFramed}
 use Rattle.c6x_exec.specs.Process.{areas_of, ended_of}
 use Rattle.c6x_exec.specs.declared.process.Process.{Process}
-use Rattle.c6x_policy.specs.Chooser.{Chooser, Chooses}
-use Rattle.c6x_policy.specs.Picks.{effective_process, effective_steps}
-use Rattle.c6x_policy.specs.declared.pick.Pick.{Pick}
-use Rattle.c6x_processes.specs.Together.{AllStand, AreApart, AllLieOn}
+use Rattle.c6x_ports.specs.Chooser.{Chooser, Chooses}
+use Rattle.c6x_ports.specs.Picks.{effective_process, effective_steps}
+use Rattle.c6x_ports.specs.declared.pick.Pick.{Pick}
+use Rattle.c6x_sched.specs.Together.{AllStand, AreApart, AllLieOn}
 use Rattle.c6x_sched.specs.declared.system.System.{System}
 use Rattle.c6x_sched.specs.declared.turn.Turn.{Turn}
 use Rattle.c6x_sched.specs.System.{processes_of, quantum_of}

@@ -1,7 +1,7 @@
-ghost use Rattle.c6x_policy.specs.Chooser.{Chooses};
-ghost use Rattle.c6x_policy.specs.Picks.{IsReady};
+ghost use Rattle.c6x_ports.specs.Chooser.{Chooses};
+ghost use Rattle.c6x_ports.specs.Picks.{IsReady};
 
-use c6x_policy::{Pick, Policy};
+use c6x_ports::{Pick, Policy};
 
 /// The policy's answer, where these processes are ready.
 pub(crate) fn chosen(policy: &mut Box<dyn Policy>, ready: &[u32]) -> Pick

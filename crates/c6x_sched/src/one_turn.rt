@@ -1,7 +1,7 @@
 ghost use Rattle.std.specs.Prelude.{◌≡◌, ◌≢◌, ◌≤◌, [], length};
-ghost use Rattle.c6x_policy.specs.Picks.{effective_process, effective_steps};
-ghost use Rattle.c6x_policy.specs.declared.limits.TheConstants.{MOST_PROCESSES};
-ghost use Rattle.c6x_processes.specs.Together.{AllLieOn};
+ghost use Rattle.c6x_ports.specs.Picks.{effective_process, effective_steps};
+ghost use Rattle.c6x_ports.specs.declared.limits.TheConstants.{MOST_PROCESSES};
+ghost use Rattle.c6x_sched.specs.Together.{AllLieOn};
 ghost use Rattle.c6x_sched.specs.Ran.{IsTurned};
 ghost use Rattle.c6x_sched.specs.Turns.{ready_of};
 
@@ -9,7 +9,7 @@ use crate::run_at::run_at;
 use crate::turn::Turn;
 use c6x_board::Board;
 use c6x_exec::Process;
-use c6x_policy::{Pick, effective_pick};
+use c6x_ports::{Pick, effective_pick};
 
 /// Runs the process that a pick stands for, as long as the pick stands for.
 pub(crate) fn run_picked(

@@ -1,5 +1,5 @@
 ghost use Rattle.std.specs.Prelude.{◌≡◌, ◌≤◌, length, vec_capacity};
-ghost use Rattle.c6x_policy.specs.declared.limits.TheConstants.{MOST_PROCESSES};
+ghost use Rattle.c6x_ports.specs.declared.limits.TheConstants.{MOST_PROCESSES};
 ghost use Rattle.c6x_sched.specs.Turns.{ready_of};
 
 use c6x_exec::Process;

@@ -1,14 +1,14 @@
 ghost use Rattle.std.specs.Prelude.{◌≤◌, length, vec_capacity};
-ghost use Rattle.c6x_policy.specs.declared.limits.TheConstants.{MOST_PROCESSES};
+ghost use Rattle.c6x_ports.specs.declared.limits.TheConstants.{MOST_PROCESSES};
 
 use crate::chosen::chosen;
+use crate::loaded::Loaded;
 use crate::one_turn::run_picked;
 use crate::ready::list_ready;
 use crate::turn::Turn;
 use c6x_board::Board;
 use c6x_exec::Process;
-use c6x_policy::{Pick, Policy};
-use c6x_processes::Loaded;
+use c6x_ports::{Pick, Policy};
 
 /// Processes that take turns, and how many cycles a turn has at most. It keeps no bytes of memory, and no call of it takes
 /// any.
@@ -27,8 +27,8 @@ impl System {
     ghost use Rattle.c6x_spec.specs.Files.{Rose};
     ghost use Rattle.c6x_machine.specs.Machine.{life};
     ghost use Rattle.c6x_machine.specs.Origin.{Origin};
-    ghost use Rattle.c6x_policy.specs.declared.limits.TheConstants.{MOST_QUANTUM};
-    ghost use Rattle.c6x_processes.specs.Together.{AllStand, AreApart, AllLieOn, AreFramed};
+    ghost use Rattle.c6x_ports.specs.declared.limits.TheConstants.{MOST_QUANTUM};
+    ghost use Rattle.c6x_sched.specs.Together.{AllStand, AreApart, AllLieOn, AreFramed};
     ghost use Rattle.c6x_sched.specs.Ended.{AllEnded, AllHaveLived};
     ghost use Rattle.c6x_sched.specs.Play.{HasPlayed, game_of};
     ghost use Rattle.c6x_sched.specs.Step.{IsTurnOf, HasStepped};

@@ -12,7 +12,7 @@ use Rattle.c6x_elf.specs.declared.file.File.{File}
 use Rattle.c6x_elf.specs.declared.section.Section.{Section}
 use Rattle.c6x_elf.specs.TableEntries.{symbol_at, symbol_entries}
 use Rattle.std.specs.List.{range_with_len}
-use Rattle.c6x_objects.specs.Objects.{IsObject}
+use Rattle.c6x_symbols.specs.Objects.{IsObject}
 use Rattle.c6x_symbols.specs.Mentions.{link_of}
 use Rattle.c6x_base.specs.declared.limits.TheConstants.{MOST_HELD_BYTES}
 

@@ -1,3 +1,7 @@
+pub mod Few
+pub mod Listed
+pub mod Numbered
+pub mod Objects
 pub mod Finding
 pub mod Firsts
 pub mod Listing
@@ -6,3 +10,4 @@ pub mod Grouping
 pub mod Mentioned
 pub mod Counts
 pub mod Bound
+pub mod Walks

@@ -1,3 +1,7 @@
+pub mod Entries
+pub mod Objects
+pub mod Parts
+pub mod Sections
 pub mod Binding
 pub mod Bindings
 pub mod Groups
@@ -5,3 +9,5 @@ pub mod Growth
 pub mod Mentions
 pub mod Names
 pub mod Rules
+pub mod EntryRules
+pub mod LinkEntries

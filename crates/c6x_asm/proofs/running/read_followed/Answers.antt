@@ -1,8 +1,8 @@
 use Rattle.std.proofs.Common.{length, arith}
 use Rattle.std.specs.Prelude.{vec_len}
 use Rattle.c6x_asm_lines.specs.Grammar.{line_of}
-use Rattle.c6x_asm_steps.specs.States.{state_of}
-use Rattle.c6x_asm_steps.specs.Touching.{Touches}
+use Rattle.c6x_asm.specs.States.{state_of}
+use Rattle.c6x_asm.specs.Touching.{Touches}
 use Rattle.c6x_asm.proofs.Followed.{blocks_behind, inside_behind, inside_items, told_touches}
 use Rattle.c6x_asm.proofs.running.read_followed.Goals as goal
 

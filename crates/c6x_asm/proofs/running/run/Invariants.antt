@@ -1,6 +1,6 @@
 use Rattle.std.proofs.Common.{◌≡◌, ◌≤◌, drop}
-use Rattle.c6x_asm_steps.specs.States.{state_of, IsSound}
-use Rattle.c6x_asm_limits.specs.Sums.{AreBlocks}
+use Rattle.c6x_asm.specs.States.{state_of, IsSound}
+use Rattle.c6x_asm_object.specs.Sums.{AreBlocks}
 use Rattle.c6x_asm.specs.Running.{run_from}
 use Rattle.c6x_asm.proofs.running.run.Given as goal
 

@@ -1,9 +1,9 @@
 use Rattle.std.proofs.Common.{refl, rules}
-use Rattle.c6x_policy.specs.declared.kind.Kind.{Kind}
-use Rattle.c6x_policy.specs.declared.kind.Kind.TheVariants.{Round}
-use Rattle.c6x_cli_gen.specs.Stages.{gen_stages}
-use Rattle.c6x_cli_turns.specs.Tellings.{untold}
-use Rattle.c6x_cli_turns.proofs.Tellings.{tells_untold}
+use Rattle.c6x_ports.specs.declared.kind.Kind.{Kind}
+use Rattle.c6x_ports.specs.declared.kind.Kind.TheVariants.{Round}
+use Rattle.c6x_cli.specs.Stages.{gen_stages}
+use Rattle.c6x_cli_run.specs.Tellings.{untold}
+use Rattle.c6x_cli_run.proofs.Tellings.{tells_untold}
 use Rattle.c6x_cli.proofs.Served.{asking_carries}
 use Rattle.c6x_cli.proofs.commit.commit_generated.Goals as goal
 

@@ -1,5 +1,5 @@
 use Rattle.std.proofs.Common.{refl, rules}
-use Rattle.c6x_policy.specs.declared.kind.Kind.{Kind}
+use Rattle.c6x_ports.specs.declared.kind.Kind.{Kind}
 use Rattle.c6x_cli_run.specs.Stages.{run_telling}
 use Rattle.c6x_cli.proofs.Served.{asking_carries}
 use Rattle.c6x_cli.proofs.commit.commit_run.Goals as goal

@@ -1,4 +1,4 @@
-use Rattle.c6x_cli_exits.proofs.Performs.{carries_delivered}
+use Rattle.c6x_cli_run.proofs.Performs.{carries_delivered}
 use Rattle.c6x_cli.proofs.commit.commit_show.Goals as goal
 
 pub returns : goal.returns

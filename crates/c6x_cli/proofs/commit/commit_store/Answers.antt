@@ -1,4 +1,4 @@
-use Rattle.c6x_cli_exits.proofs.Performs.{carries_stored}
+use Rattle.c6x_cli_run.proofs.Performs.{carries_stored}
 use Rattle.c6x_cli.proofs.commit.commit_store.Goals as goal
 
 pub returns-clause-carries : goal.returns-clause-carries

@@ -1,6 +1,6 @@
 use Rattle.std.proofs.Common.{◌∙◌, sym, subst, []}
-use Rattle.c6x_cli_loads.proofs.LoadsRead.{linked_loads}
-use Rattle.c6x_cli_exits.proofs.Performs.{completes, exits_performed, keeps_performed, policies_performed, shows_performed}
+use Rattle.c6x_cli.proofs.LoadsRead.{linked_loads}
+use Rattle.c6x_cli_run.proofs.Performs.{completes, exits_performed, keeps_performed, policies_performed, shows_performed}
 use Rattle.c6x_cli.proofs.Generated.{lacks_room}
 use Rattle.c6x_cli.proofs.Misread.{exits_misread, exits_unread, keeps_misread, policies_misread, policies_unread, shows_misread, shows_unread, stopped_misread, stopped_unread, usage_misread, usage_performed, usage_unread}
 use Rattle.c6x_cli.proofs.OutcomeKinds.{performs_read}

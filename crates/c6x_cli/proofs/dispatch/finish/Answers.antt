@@ -1,5 +1,5 @@
 use Rattle.std.proofs.Common.{refl, inl, inr}
-use Rattle.c6x_cli_exits.proofs.Performs.{cut_of, left_of, cut_reported, memory_reported}
+use Rattle.c6x_cli_run.proofs.Performs.{cut_of, left_of, cut_reported, memory_reported}
 use Rattle.c6x_cli.proofs.dispatch.finish.Goals as goal
 
 pub returns-in-Ok-clause-ends : goal.returns-in-Ok-clause-ends

@@ -1,4 +1,4 @@
-use Rattle.c6x_cli_exits.proofs.Performs.{performs_committed, performs_prevented}
+use Rattle.c6x_cli_run.proofs.Performs.{performs_committed, performs_prevented}
 use Rattle.c6x_cli.specs.Meaning.{outcome_of}
 use Rattle.c6x_cli.proofs.OutcomeKinds.{kind_of_outcome, asks_of_outcome, faults_of_kind, policy_of_kind}
 use Rattle.c6x_cli.proofs.dispatch.perform.Goals as goal

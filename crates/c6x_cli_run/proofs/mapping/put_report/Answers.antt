@@ -1,4 +1,4 @@
-use Rattle.c6x_cli_report.proofs.Settled.{loads_is_settled}
+use Rattle.c6x_cli_run.proofs.Settled.{loads_is_settled}
 use Rattle.c6x_cli_run.proofs.mapping.put_report.Goals as goal
 
 pub put_bases-requires : goal.put_bases-requires

@@ -4,9 +4,9 @@ use Rattle.c6x_machine.specs.Machine.{life}
 use Rattle.c6x_plan.specs.declared.process_plan.ProcessPlan.{ProcessPlan}
 use Rattle.c6x_ports.specs.Sink.{Puts}
 use Rattle.c6x_cli_steps.proofs.Stages.{puts_first, puts_next, puts_cut}
-use Rattle.c6x_cli_turns.specs.Boards.{boards_at}
-use Rattle.c6x_cli_report.proofs.Settled.{loads_is_settled}
-use Rattle.c6x_cli_report.specs.Ends.{ends_text}
+use Rattle.c6x_cli_run.specs.TurnBoards.{boards_at}
+use Rattle.c6x_cli_run.proofs.Settled.{loads_is_settled}
+use Rattle.c6x_cli_run.specs.Ends.{ends_text}
 use Rattle.c6x_cli_run.specs.Boards.{count_of, starts_of}
 use Rattle.c6x_cli_run.proofs.Runs.{asked_once}
 use Rattle.c6x_cli_run.proofs.running.run_loaded.Goals as goal

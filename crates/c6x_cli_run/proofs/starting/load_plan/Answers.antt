@@ -1,8 +1,8 @@
 use Rattle.std.proofs.Common.{◌≡◌, false, List, length, subst, ap, ◌∙◌}
 use Rattle.c6x_spec.specs.Parts.{filled_with}
 use Rattle.c6x_plan.specs.declared.process_plan.ProcessPlan.{ProcessPlan}
-use Rattle.c6x_processes.specs.Together.{AllStand}
-use Rattle.c6x_load_plan.specs.Loaded.{plan_parts}
+use Rattle.c6x_sched.specs.Together.{AllStand}
+use Rattle.c6x_load.specs.Loaded.{plan_parts}
 use Rattle.c6x_load.specs.Starts.{origins}
 use Rattle.c6x_cli_run.proofs.Loads.{loads_later}
 use Rattle.c6x_cli_run.proofs.starting.load_plan.Goals as goal

@@ -1,7 +1,7 @@
 use Rattle.std.proofs.Common.{◌≡◌, false, List, subst}
 use Rattle.c6x_spec.specs.Parts.{filled_with}
 use Rattle.c6x_plan.specs.declared.process_plan.ProcessPlan.{ProcessPlan}
-use Rattle.c6x_load_plan.specs.Loaded.{plan_parts}
+use Rattle.c6x_load.specs.Loaded.{plan_parts}
 use Rattle.c6x_cli_run.proofs.Loads.{loads_later}
 use Rattle.c6x_cli_run.proofs.starting.write_start.Goals as goal
 

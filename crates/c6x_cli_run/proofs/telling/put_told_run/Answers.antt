@@ -1,5 +1,5 @@
 use Rattle.std.proofs.Common.{rules, refl}
-use Rattle.c6x_cli_turns.proofs.Tellings.{tells_cut_short, tells_done, tells_none}
+use Rattle.c6x_cli_run.proofs.Tellings.{tells_cut_short, tells_done, tells_none}
 use Rattle.c6x_cli_run.proofs.Delivering.{serves_cut, serves_done, serves_none}
 use Rattle.c6x_cli_run.proofs.telling.put_told_run.Goals as goal
 

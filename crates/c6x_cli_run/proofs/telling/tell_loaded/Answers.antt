@@ -1,8 +1,8 @@
 use Rattle.std.proofs.Common.{rules, ◌∙◌, List, subst, refl, arith, inl}
 use Rattle.c6x_plan.specs.declared.process_plan.ProcessPlan.{ProcessPlan}
 use Rattle.c6x_ports.specs.Sink.{Puts}
-use Rattle.c6x_cli_report.proofs.Settled.{loads_is_settled}
-use Rattle.c6x_cli_report.specs.Ends.{ends_text}
+use Rattle.c6x_cli_run.proofs.Settled.{loads_is_settled}
+use Rattle.c6x_cli_run.specs.Ends.{ends_text}
 use Rattle.c6x_cli_run.specs.Boards.{starts_of}
 use Rattle.c6x_cli_run.proofs.Told.{opening_cut, run_cut, run_told}
 use Rattle.c6x_cli_run.proofs.telling.tell_loaded.Goals as goal

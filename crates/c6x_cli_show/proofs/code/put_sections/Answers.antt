@@ -1,7 +1,7 @@
 use Rattle.std.proofs.Common.{refl, rules, arith, false}
 use Rattle.c6x_spec.proofs.Puts.{on_err}
 use Rattle.c6x_cli_show.specs.Code.{section_code}
-use Rattle.c6x_dis_text.proofs.Behind.{behind_all, behind_cut, behind_next, behind_none}
+use Rattle.c6x_dis.proofs.Behind.{behind_all, behind_cut, behind_next, behind_none}
 use Rattle.c6x_cli_show.proofs.TableLines.{members_end, members_more}
 use Rattle.c6x_cli_show.proofs.code.put_sections.Goals as goal
 

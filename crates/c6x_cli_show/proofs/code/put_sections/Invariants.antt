@@ -1,7 +1,7 @@
 use Rattle.std.proofs.Common.{◌≤◌, false, drop}
 use Rattle.std.specs.List.{flat_map}
 use Rattle.c6x_cli_show.specs.Code.{section_code}
-use Rattle.c6x_dis_text.proofs.Behind.{IsBehind}
+use Rattle.c6x_dis.proofs.Behind.{IsBehind}
 use Rattle.c6x_cli_show.proofs.code.put_sections.Given as goal
 
 abbrev pub invariant-loop-section : goal.invariant-loop-section

@@ -1,7 +1,7 @@
 use Rattle.std.proofs.Common.{◌≤◌, false, drop}
 use Rattle.std.specs.List.{flat_map}
 use Rattle.c6x_cli_show.specs.Code.{segment_code}
-use Rattle.c6x_dis_text.proofs.Behind.{IsBehind}
+use Rattle.c6x_dis.proofs.Behind.{IsBehind}
 use Rattle.c6x_cli_show.proofs.code.put_segments.Given as goal
 
 abbrev pub invariant-loop-segment : goal.invariant-loop-segment

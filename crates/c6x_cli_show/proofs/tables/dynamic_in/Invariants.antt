@@ -1,5 +1,5 @@
 use Rattle.std.proofs.Common.{◌≡◌, drop}
-use Rattle.c6x_module_rules.specs.Entries.{dynamic_in}
+use Rattle.c6x_module.specs.Entries.{dynamic_in}
 use Rattle.c6x_cli_show.proofs.tables.dynamic_in.Given as goal
 
 abbrev pub invariant-loop-segment : goal.invariant-loop-segment

@@ -2,7 +2,7 @@ use Rattle.std.proofs.Common.{◌/◌, rules, arith, false, length}
 use Rattle.c6x_spec.proofs.Puts.{on_err}
 use Rattle.c6x_elf.specs.TableEntries.{rela_at, rela_entries}
 use Rattle.c6x_cli_show.specs.Lines.{rela_line}
-use Rattle.c6x_dis_text.proofs.Behind.{behind_all, behind_cut, behind_next, behind_none}
+use Rattle.c6x_dis.proofs.Behind.{behind_all, behind_cut, behind_next, behind_none}
 use Rattle.c6x_cli_show.proofs.TableLines.{lines_all, lines_end, lines_more}
 use Rattle.c6x_cli_show.proofs.tables.put_relas.Goals as goal
 

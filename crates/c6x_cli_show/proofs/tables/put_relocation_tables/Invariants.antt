@@ -1,7 +1,7 @@
 use Rattle.std.proofs.Common.{◌≤◌, false, drop}
 use Rattle.std.specs.List.{flat_map}
 use Rattle.c6x_cli_show.specs.Shown.{table_relas}
-use Rattle.c6x_dis_text.proofs.Behind.{IsBehind}
+use Rattle.c6x_dis.proofs.Behind.{IsBehind}
 use Rattle.c6x_cli_show.proofs.tables.put_relocation_tables.Given as goal
 
 abbrev pub invariant-loop-table : goal.invariant-loop-table

@@ -2,7 +2,7 @@ use Rattle.std.proofs.Common.{◌-◌, ◌/◌, ◌≤◌, false, length, map}
 use Rattle.std.specs.List.{flat_map, range_with_len}
 use Rattle.c6x_elf.specs.TableEntries.{symbol_at, symbol_entries}
 use Rattle.c6x_cli_show.specs.Lines.{symbol_line_in}
-use Rattle.c6x_dis_text.proofs.Behind.{IsBehind}
+use Rattle.c6x_dis.proofs.Behind.{IsBehind}
 use Rattle.c6x_cli_show.proofs.tables.put_symbols.Given as goal
 
 abbrev pub invariant-loop-number : goal.invariant-loop-number

@@ -2,10 +2,10 @@ use Rattle.std.proofs.Common.{◌/◌, ap, rules, arith, false, length, map}
 use Rattle.c6x_spec.proofs.Puts.{on_err}
 use Rattle.std.specs.List.{flat_map}
 use Rattle.c6x_elf.specs.TableEntries.{dynamic_at, dynamic_entries}
-use Rattle.c6x_module_rules.specs.Entries.{entries_of, until_null}
-use Rattle.c6x_module_rules.proofs.EntryWalks.{entries_end, entries_kept, entries_null}
+use Rattle.c6x_module.specs.Entries.{entries_of, until_null}
+use Rattle.c6x_module.proofs.EntryWalks.{entries_end, entries_kept, entries_null}
 use Rattle.c6x_cli_show.specs.Lines.{tag_line}
-use Rattle.c6x_dis_text.proofs.Behind.{behind_all, behind_cut, behind_next, behind_none, numbers_all}
+use Rattle.c6x_dis.proofs.Behind.{behind_all, behind_cut, behind_next, behind_none, numbers_all}
 use Rattle.c6x_cli_show.proofs.tables.put_tags.Goals as goal
 
 pub loop-number-init : goal.loop-number-init

@@ -1,9 +1,9 @@
 use Rattle.std.proofs.Common.{◌-◌, ◌/◌, ◌≤◌, false, length, map}
 use Rattle.std.specs.List.{flat_map, range_with_len}
 use Rattle.c6x_elf.specs.TableEntries.{dynamic_at}
-use Rattle.c6x_module_rules.specs.Entries.{entries_of, until_null}
+use Rattle.c6x_module.specs.Entries.{entries_of, until_null}
 use Rattle.c6x_cli_show.specs.Lines.{tag_line}
-use Rattle.c6x_dis_text.proofs.Behind.{IsBehind}
+use Rattle.c6x_dis.proofs.Behind.{IsBehind}
 use Rattle.c6x_cli_show.proofs.tables.put_tags.Given as goal
 
 abbrev pub invariant-loop-number : goal.invariant-loop-number

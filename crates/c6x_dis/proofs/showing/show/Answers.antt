@@ -1,6 +1,6 @@
 use Rattle.std.proofs.Common.{subst, sym}
-use Rattle.c6x_asm_word.specs.Words.{AssemblesTo}
-use Rattle.c6x_asm_word.proofs.Shown.{shown_assembled}
+use Rattle.c6x_dis.specs.Words.{AssemblesTo}
+use Rattle.c6x_dis.proofs.Shown.{shown_assembled}
 use Rattle.c6x_dis.proofs.showing.show.Goals as goal
 
 pub returns-clause-assembled : goal.returns-clause-assembled

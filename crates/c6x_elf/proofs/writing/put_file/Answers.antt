@@ -1,5 +1,5 @@
 use Rattle.std.proofs.Common.{◌≡◌, false, List, [], ◌++◌, ◌∙◌, ap, refl, vec_len}
-use Rattle.c6x_elf_layout.specs.Laid.{InOrder, Part, laid}
+use Rattle.c6x_elf_headers.specs.Laid.{InOrder, Part, laid}
 use Rattle.c6x_elf.specs.Writing.{offsets_of, section_parts, segment_parts, segments_end, spots_of, start_of, table_parts, written_size}
 use Rattle.c6x_elf.specs.declared.file.File.{File}
 use Rattle.c6x_elf.proofs.Orders.{chain_order, file_chain, length-offsets, length-spots, order_front, written_from}

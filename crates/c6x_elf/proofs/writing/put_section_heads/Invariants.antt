@@ -1,5 +1,5 @@
 use Rattle.std.proofs.Common.{◌≡◌, ◌+◌, ◌*◌, ◌++◌, false, drop, vec_len}
-use Rattle.c6x_elf_layout.specs.HeadRows.{SectionsFit, section_rows}
+use Rattle.c6x_elf_headers.specs.HeadRows.{SectionsFit, section_rows}
 use Rattle.c6x_elf.specs.Writing.{section_heads_at}
 use Rattle.c6x_elf.proofs.writing.put_section_heads.Given as goal
 

@@ -1,5 +1,5 @@
 use Rattle.std.proofs.Common.{◌≡◌, List, ◌++◌, drop, vec_len}
-use Rattle.c6x_elf_layout.specs.Laid.{InOrder, Part, laid}
+use Rattle.c6x_elf_headers.specs.Laid.{InOrder, Part, laid}
 use Rattle.c6x_elf.specs.Writing.{section_parts}
 use Rattle.c6x_elf.proofs.writing.put_sections.Given as goal
 

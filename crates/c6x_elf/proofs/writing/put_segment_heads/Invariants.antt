@@ -1,5 +1,5 @@
 use Rattle.std.proofs.Common.{◌≡◌, ◌+◌, ◌*◌, ◌++◌, false, drop, vec_len}
-use Rattle.c6x_elf_layout.specs.HeadRows.{SegmentsFit, segment_rows}
+use Rattle.c6x_elf_headers.specs.HeadRows.{SegmentsFit, segment_rows}
 use Rattle.c6x_elf.specs.Writing.{AreWithin, segment_heads_at}
 use Rattle.c6x_elf.proofs.writing.put_segment_heads.Given as goal
 

@@ -1,5 +1,5 @@
 use Rattle.std.proofs.Common.{sym, ◌∙◌, refl, ap}
-use Rattle.c6x_instr.specs.declared.op.Op.TheVariants.{Two}
+use Rattle.c6x_encoding.specs.declared.op.Op.TheVariants.{Two}
 use Rattle.c6x_encoding.specs.Encoded.{two_code}
 use Rattle.c6x_encoding.proofs.Answering.{two_encoded, two_none}
 use Rattle.c6x_encoding.proofs.words.operation_word.Goals as goal

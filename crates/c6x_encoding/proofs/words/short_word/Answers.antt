@@ -1,6 +1,6 @@
 use Rattle.std.proofs.Common.{◌≡◌, true, sym, ◌∙◌, None}
 use Rattle.std.proofs.lemmas.Bool.{cond-true}
-use Rattle.c6x_instr.specs.Spelling.{is_part, Mode}
+use Rattle.c6x_encoding.specs.Spelling.{is_part, Mode}
 use Rattle.c6x_encoding.specs.Encoded.{encoded}
 use Rattle.c6x_encoding.proofs.words.short_word.Goals as goal
 

@@ -1,6 +1,6 @@
 use Rattle.std.proofs.Common.{◌≡◌, ◌+◌, ◌∙◌, subst, Option}
-use Rattle.c6x_instr.specs.declared.write.Write.{Write}
-use Rattle.c6x_instr.specs.Rows.{write_of_access}
+use Rattle.c6x_encoding.specs.declared.write.Write.{Write}
+use Rattle.c6x_encoding.specs.Rows.{write_of_access}
 use Rattle.c6x_machine.specs.History.{number_at}
 use Rattle.c6x_machine.specs.Packet.{with_write}
 use Rattle.c6x_exec.specs.Stands.{Tracks}

@@ -1,7 +1,7 @@
 use Rattle.std.proofs.Common.{false, ◌+◌, ◌≡◌, sym, subst, rules, arith, take, take_all, List}
 use Rattle.std.specs.List.{fold}
 use Rattle.std.proofs.lemmas.List.Sums.{fold_more}
-use Rattle.c6x_instr.specs.declared.effect.Effects.{Effects}
+use Rattle.c6x_encoding.specs.declared.effect.Effects.{Effects}
 use Rattle.c6x_machine.specs.History.{Effect}
 use Rattle.c6x_machine.specs.Packet.{with_stored}
 use Rattle.c6x_exec.specs.Stands.{Tracks}

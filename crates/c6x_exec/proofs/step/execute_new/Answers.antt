@@ -1,7 +1,7 @@
 use Rattle.std.proofs.Common.{ap, sym, subst, refl, length, ◌∙◌, List}
 use Rattle.std.specs.List.{All}
-use Rattle.c6x_instr.specs.declared.instr.Instr.{Instr}
-use Rattle.c6x_instr.specs.Spelling.{IsValid}
+use Rattle.c6x_encoding.specs.declared.instr.Instr.{Instr}
+use Rattle.c6x_encoding.specs.Spelling.{IsValid}
 use Rattle.c6x_exec.proofs.Knowing.{spelled_lengths}
 use Rattle.c6x_exec.proofs.Steps.{all_valid}
 use Rattle.c6x_exec.proofs.step.execute_new.Goals as goal

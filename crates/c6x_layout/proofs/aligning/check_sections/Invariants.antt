@@ -1,6 +1,6 @@
 use Rattle.std.proofs.Common.{◌≡◌, drop}
 use Rattle.std.specs.Prelude.{filter}
-use Rattle.c6x_objects.specs.Sections.{is_allocated}
+use Rattle.c6x_symbols.specs.Sections.{is_allocated}
 use Rattle.c6x_symbols.specs.Rules.{first_along}
 use Rattle.c6x_layout.specs.Alignments.{section_align_refusal}
 use Rattle.c6x_layout.proofs.aligning.check_sections.Given as goal

@@ -1,8 +1,8 @@
 use Rattle.std.proofs.Common.{arith, ◌≡◌, ◌∙◌}
 use Rattle.c6x_dsbt.proofs.FewNeeds.{stubs_few, words_few}
-use Rattle.c6x_objects.proofs.Few.{parts_few}
-use Rattle.c6x_objects.proofs.Objects.{objects_have_few}
-use Rattle.c6x_objects.specs.Parts.{parts_of}
+use Rattle.c6x_symbols.proofs.Few.{parts_few}
+use Rattle.c6x_symbols.proofs.Objects.{objects_have_few}
+use Rattle.c6x_symbols.specs.Parts.{parts_of}
 use Rattle.c6x_layout.proofs.HeldNames.{bindings_held}
 use Rattle.c6x_layout.proofs.whole.sized_layout.Goals as goal
 

@@ -3,8 +3,8 @@ use Rattle.std.specs.Prelude.{None}
 use Rattle.c6x_layout.specs.Alignments.{alignments_refusal}
 use Rattle.c6x_layout.specs.Layouts.{laying}
 use Rattle.c6x_layout.specs.declared.layout.Layout.{Layout}
-use Rattle.c6x_link_images.specs.Worked.{IsWorkedOut}
-use Rattle.c6x_link_targets.specs.Working.{Working, worked_out}
+use Rattle.c6x_link.specs.Worked.{IsWorkedOut}
+use Rattle.c6x_link.specs.Working.{Working, worked_out}
 use Rattle.c6x_link.proofs.Placed.{aligned_by, worked_by}
 use Rattle.c6x_link.proofs.linking.link_laid.Goals as goal
 

@@ -1,9 +1,9 @@
 use Rattle.std.proofs.Common.{◌≡◌, subst, sym}
 use Rattle.c6x_layout.proofs.AlignBounds.{text_align_small}
 use Rattle.c6x_layout.proofs.CommonBounds.{data_align_small}
-use Rattle.c6x_link_images.specs.Worked.{laying_in}
-use Rattle.c6x_linked.specs.Sizes.{AreSized}
-use Rattle.c6x_linked.specs.declared.parts.Parts.{Parts}
+use Rattle.c6x_link.specs.Worked.{laying_in}
+use Rattle.c6x_layout.specs.FileSizes.{AreSized}
+use Rattle.c6x_layout.specs.declared.parts.Parts.{Parts}
 use Rattle.c6x_link.specs.Linked.{parts_of}
 use Rattle.c6x_link.proofs.Filled.{filled_relas}
 use Rattle.c6x_link.proofs.PartsSized.{parts_sized_by}

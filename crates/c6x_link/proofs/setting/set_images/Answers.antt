@@ -1,10 +1,10 @@
 use Rattle.std.proofs.Common.{◌≡◌, ◌-◌, List, length, subst, sym, ap, ◌∙◌}
 use Rattle.std.specs.Prelude.{All}
 use Rattle.c6x_layout.specs.Layouts.{code_end, file_end, table_at}
-use Rattle.c6x_link_entries.specs.Entries.{IsIn}
-use Rattle.c6x_link_entries.specs.declared.entry.Entry.{Entry}
-use Rattle.c6x_link_images.specs.Worked.{laying_in}
-use Rattle.c6x_linked.specs.declared.limits.TheConstants.{TEXT_START}
+use Rattle.c6x_symbols.specs.LinkEntries.{IsIn}
+use Rattle.c6x_symbols.specs.declared.entry.Entry.{Entry}
+use Rattle.c6x_link.specs.Worked.{laying_in}
+use Rattle.c6x_layout.specs.declared.file_limits.TheConstants.{TEXT_START}
 use Rattle.c6x_link.proofs.Placed.{entries_inside}
 use Rattle.c6x_link.proofs.setting.set_images.Goals as goal
 

@@ -1,9 +1,9 @@
 use Rattle.std.proofs.Common.{◌∙◌, ◌+◌, ℕ, List, ap, sym, subst, length, false, arith}
 use Rattle.std.specs.Prelude.{Option}
-use Rattle.c6x_bind.specs.declared.bound_process.BoundProcess.{BoundProcess}
-use Rattle.c6x_seats.specs.declared.seat.Seat.{Seat}
-use Rattle.c6x_load_plan.proofs.Placed.{stands}
-use Rattle.c6x_load_process.specs.Laws.{AreAllBelow}
+use Rattle.c6x_place.specs.declared.bound_process.BoundProcess.{BoundProcess}
+use Rattle.c6x_place.specs.declared.seat.Seat.{Seat}
+use Rattle.c6x_load.proofs.Placed.{stands}
+use Rattle.c6x_load.specs.ProcessLaws.{AreAllBelow}
 use Rattle.c6x_load.proofs.Facts.{all_below, all_known, loaded}
 use Rattle.c6x_load.proofs.loading.load.Goals as goal
 

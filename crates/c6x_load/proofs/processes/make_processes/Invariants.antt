@@ -1,6 +1,6 @@
 use Rattle.std.proofs.Common.{ℕ, List, ◌++◌, drop}
 use Rattle.c6x_exec.specs.declared.process.Process.{Process}
-use Rattle.c6x_load_process.specs.Laws.{AreAllBelow}
+use Rattle.c6x_load.specs.ProcessLaws.{AreAllBelow}
 use Rattle.c6x_load.specs.Made.{AreMade}
 use Rattle.c6x_load.specs.Starts.{origins_of}
 use Rattle.c6x_load.proofs.processes.make_processes.Given as goal

@@ -1,5 +1,5 @@
 use Rattle.std.proofs.Common.{◌≡◌, length}
-use Rattle.c6x_module_rules.specs.Ranges.{first_where, is_range, is_text}
+use Rattle.c6x_module.specs.Ranges.{first_where, is_range, is_text}
 use Rattle.c6x_modules.specs.Surveyed.{or_later}
 use Rattle.c6x_modules.proofs.ranges.first_two.Given as goal
 

@@ -1,5 +1,5 @@
 use Rattle.std.proofs.Common.{false, rules}
-use Rattle.c6x_module_rules.proofs.Validity.{module_valid}
+use Rattle.c6x_module.proofs.Validity.{module_valid}
 use Rattle.c6x_modules.proofs.reading.read_module.Goals as goal
 
 pub returns-clause-valid : goal.returns-clause-valid

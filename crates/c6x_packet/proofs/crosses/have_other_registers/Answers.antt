@@ -1,6 +1,6 @@
 use Rattle.std.proofs.Common.{sym, ◌∙◌, arith}
-use Rattle.c6x_instr.specs.declared.instr.Instr.{Instr}
-use Rattle.c6x_instr.specs.declared.op.Op.{Op}
+use Rattle.c6x_encoding.specs.declared.instr.Instr.{Instr}
+use Rattle.c6x_encoding.specs.declared.op.Op.{Op}
 use Rattle.c6x_packet.specs.Rules.{breaks, cross_of}
 use Rattle.c6x_packet.proofs.Walks.{walk_start, walk_found, walk_next, walk_end}
 use Rattle.c6x_packet.proofs.crosses.have_other_registers.Goals as goal

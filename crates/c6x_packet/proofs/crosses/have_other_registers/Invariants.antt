@@ -1,4 +1,4 @@
-use Rattle.c6x_instr.specs.declared.op.Op.{Op}
+use Rattle.c6x_encoding.specs.declared.op.Op.{Op}
 use Rattle.c6x_packet.specs.declared.rule.PairRule.TheVariants.{Cross}
 use Rattle.c6x_packet.specs.Rules.{cross_of}
 use Rattle.c6x_packet.specs.Taken.{is_other_read}

@@ -1,5 +1,5 @@
 use Rattle.std.proofs.Common.{◌≡◌, drop}
-use Rattle.c6x_search.specs.Search.{has}
+use Rattle.c6x_base.specs.Search.{has}
 use Rattle.c6x_place.proofs.used.has.Given as goal
 
 abbrev pub invariant-loop-member : goal.invariant-loop-member

@@ -1,6 +1,6 @@
 use Rattle.std.proofs.Common.{◌≡◌, ◌<◌, ℕ, List, length, sym, ap, subst, arith}
 use Rattle.c6x_exec.specs.declared.process.Process.{Process}
-use Rattle.c6x_policy.specs.Picks.{IsReady}
+use Rattle.c6x_ports.specs.Picks.{IsReady}
 use Rattle.c6x_sched.specs.Ran.{IsTurned}
 use Rattle.c6x_sched.proofs.Open.{ready_is, ready_some, ready_open, runs_at}
 use Rattle.c6x_sched.proofs.one_turn.run_picked.Goals as goal

@@ -1,6 +1,6 @@
 use Rattle.std.proofs.Common.{◌∙◌, ap, List, ℕ}
 use Rattle.std.specs.Prelude.{slice_index}
-use Rattle.c6x_instr.specs.Registers.{place_of}
+use Rattle.c6x_encoding.specs.Registers.{place_of}
 use Rattle.c6x_exec.proofs.Standing.{stands_tracks}
 use Rattle.c6x_exec.proofs.Amid.{place_below}
 use Rattle.c6x_exec.proofs.Registers.{register_in}

@@ -2,7 +2,7 @@ use Rattle.std.proofs.Common.{◌∙◌, List, sym, subst, inr}
 use Rattle.c6x_spec.specs.Memory.{Memory}
 use Rattle.c6x_machine.specs.Machine.{life}
 use Rattle.c6x_exec.specs.declared.process.Process.{Process}
-use Rattle.c6x_processes.specs.Together.{AllStand}
+use Rattle.c6x_sched.specs.Together.{AllStand}
 use Rattle.c6x_sched.specs.Ended.{AllEnded, AllHaveLived}
 use Rattle.c6x_sched.specs.System.{processes_of}
 use Rattle.c6x_sched.proofs.Open.{all_ended}

@@ -4,7 +4,7 @@ use Rattle.std.specs.Prelude.{slice_get}
 use Rattle.c6x_machine.specs.Origin.{Origin}
 use Rattle.c6x_exec.specs.Process.{areas_of}
 use Rattle.c6x_exec.specs.declared.process.Process.{Process}
-use Rattle.c6x_processes.specs.Together.{AllStand, AreApart, AllLieOn, AreFramed}
+use Rattle.c6x_sched.specs.Together.{AllStand, AreApart, AllLieOn, AreFramed}
 use Rattle.c6x_sched.specs.Play.{PlaysOn, game_of}
 use Rattle.c6x_sched.specs.System.{processes_of, quantum_of}
 use Rattle.c6x_sched.specs.Turns.{ready_of, all_left}

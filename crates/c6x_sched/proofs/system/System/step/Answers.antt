@@ -1,6 +1,6 @@
 use Rattle.std.proofs.Common.{◌≡◌, ◌∙◌, ℕ, List, sym, subst, ap}
 use Rattle.c6x_exec.specs.declared.process.Process.{Process}
-use Rattle.c6x_policy.specs.Picks.{IsReady}
+use Rattle.c6x_ports.specs.Picks.{IsReady}
 use Rattle.c6x_sched.specs.System.{processes_of}
 use Rattle.c6x_sched.specs.Turns.{ready_of}
 use Rattle.c6x_sched.proofs.Open.{ready_is, not_empty}

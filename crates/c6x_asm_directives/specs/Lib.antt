@@ -1,5 +1,0 @@
-pub mod Keywords
-pub mod Kinds
-pub mod Directives
-pub mod Fields
-pub mod Bounds

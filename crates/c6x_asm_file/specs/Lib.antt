@@ -1,4 +1,0 @@
-pub mod Names
-pub mod Built
-pub mod Adding
-pub mod Fitting

@@ -1,6 +1,0 @@
-use Rattle.std.proofs.Common.{take}
-use Rattle.c6x_asm_limits.specs.Sums.{AreBlocks}
-use Rattle.c6x_asm_limits.proofs.outline.Outline.of.Given as goal
-
-abbrev pub invariant-loop-place : goal.invariant-loop-place
-invariant-loop-place l = AreBlocks l.text (take l.place l.sections) l.outline

@@ -1,5 +1,0 @@
-pub mod Said
-pub mod Sections
-pub mod Relocations
-pub mod Symbols
-pub mod Breaking

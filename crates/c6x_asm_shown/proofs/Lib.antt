@@ -1,9 +1,0 @@
-pub mod Signs
-pub mod Cuts
-pub mod Lexed
-pub mod Numbers
-pub mod Names
-pub mod Operands
-pub mod Forms
-pub mod Spelled
-pub mod Valid

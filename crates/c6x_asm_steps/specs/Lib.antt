@@ -1,6 +1,0 @@
-pub mod States
-pub mod Directives
-pub mod Instructions
-pub mod Lines
-pub mod Keeping
-pub mod Touching

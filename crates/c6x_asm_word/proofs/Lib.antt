@@ -1,6 +1,0 @@
-mod Even
-mod First
-mod Sections
-mod Steps
-mod Assembled
-pub mod Shown

@@ -1,6 +1,0 @@
-use Rattle.std.proofs.Common.{◌≡◌, drop, max}
-use Rattle.c6x_bind.specs.Members.{greatest_index}
-use Rattle.c6x_bind.proofs.indices.greatest_index.Given as goal
-
-abbrev pub invariant-loop-number : goal.invariant-loop-number
-invariant-loop-number l = max l.greatest (greatest_index l.modules (drop l.number-index l.list)) ≡ greatest_index l.modules l.list

@@ -1,8 +1,0 @@
-use Rattle.std.proofs.Common.{◌≡◌, drop}
-use Rattle.c6x_spec.specs.Firsts.{first_along}
-use Rattle.c6x_bind.specs.Binding.{name_refusal}
-use Rattle.c6x_bind.specs.Members.{needed_of}
-use Rattle.c6x_bind.proofs.rules.check_needed.Given as goal
-
-abbrev pub invariant-loop-name : goal.invariant-loop-name
-invariant-loop-name l = first_along (name_refusal l.modules l.process l.number) (drop l.name-index (needed_of l.modules l.number)) ≡ first_along (name_refusal l.modules l.process l.number) (needed_of l.modules l.number)

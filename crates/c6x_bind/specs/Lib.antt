@@ -1,4 +1,0 @@
-pub mod Members
-pub mod Needs
-pub mod Definitions
-pub mod Binding

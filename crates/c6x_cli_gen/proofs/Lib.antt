@@ -1,4 +1,0 @@
-pub mod Relocatable
-pub mod MadeBehind
-pub mod Totals
-pub mod Room

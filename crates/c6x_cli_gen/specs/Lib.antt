@@ -1,4 +1,0 @@
-pub mod Made
-pub mod Sums
-pub mod Stages
-pub mod Room

@@ -1,4 +1,0 @@
-pub mod Deciding
-pub mod Counts
-pub mod Taking
-pub mod ImageLemmas

@@ -1,3 +1,0 @@
-pub mod NamesKept
-pub mod ObjectsRead
-pub mod LoadsRead

@@ -1,6 +1,0 @@
-pub mod Came
-pub mod PlansRead
-pub mod ModulesRead
-pub mod Linked
-pub mod Placing
-pub mod Loaded

@@ -1,8 +1,0 @@
-use Rattle.std.proofs.Common.{drop}
-use Rattle.c6x_cli_report.specs.Bases.{range_lines}
-use Rattle.c6x_cli_report.proofs.Leads.{LeadsTo}
-use Rattle.c6x_cli_report.proofs.bases.put_ranges.Given as goal
-
-abbrev pub invariant-loop-position : goal.invariant-loop-position
-invariant-loop-position g l =
-    LeadsTo (range_lines l.process l.modules l.list l.bases) (g.O.Sink.seen l.fn.out) (range_lines l.process l.modules (drop l.position l.list) (drop l.position l.bases)) (g.O.Sink.seen l.out)

@@ -1,0 +1,8 @@
+use Rattle.std.proofs.Common.{drop}
+use Rattle.c6x_cli_run.specs.Bases.{range_lines}
+use Rattle.c6x_cli_run.proofs.Leads.{LeadsTo}
+use Rattle.c6x_cli_run.proofs.bases.put_ranges.Given as goal
+
+abbrev pub invariant-loop-position : goal.invariant-loop-position
+invariant-loop-position g l =
+    LeadsTo (range_lines l.process l.modules l.list l.bases) (g.O.Sink.seen l.fn.out) (range_lines l.process l.modules (drop l.position l.list) (drop l.position l.bases)) (g.O.Sink.seen l.out)

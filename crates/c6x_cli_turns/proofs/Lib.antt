@@ -1,4 +1,0 @@
-mod Tells
-pub mod Stands
-pub mod Tellings
-pub mod Games

@@ -1,5 +1,0 @@
-use Rattle.c6x_cli_turns.proofs.Stands.{board_of_all}
-use Rattle.c6x_cli_turns.proofs.laws.board_is_of_all.Goals as goal
-
-pub returns : goal.returns
-returns c = board_of_all

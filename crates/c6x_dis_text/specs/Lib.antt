@@ -1,4 +1,0 @@
-pub mod Atoms
-pub mod Shown
-pub mod Reads
-pub mod Listed

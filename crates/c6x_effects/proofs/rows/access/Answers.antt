@@ -1,8 +1,0 @@
-use Rattle.std.proofs.Common.{ℕ, sym, ◌∙◌, ap}
-use Rattle.c6x_instr.specs.declared.op.Op.{Op}
-use Rattle.c6x_instr.specs.Rows.{op_effects}
-use Rattle.c6x_effects.proofs.rows.access.Goals as goal
-
-pub returns-in-Short-clause-row : goal.returns-in-Short-clause-row
-returns-in-Short-clause-row c = λ (at : ℕ) (next : ℕ).
-    c.short.ensures.row at next ∙ ap (λ (op : Op). op_effects op at next c.args.regs.now) (sym c.in-Short.is)

@@ -1,4 +1,0 @@
-pub mod EntryRows
-pub mod Holdings
-pub mod NameTables
-pub mod NumberRows

@@ -1,6 +1,0 @@
-use Rattle.std.proofs.Common.{◌≡◌, drop}
-use Rattle.c6x_elf_entries.specs.Names.{hash_of}
-use Rattle.c6x_elf_entries.proofs.name_hash.hash.Given as goal
-
-abbrev pub invariant-loop-c : goal.invariant-loop-c
-invariant-loop-c l = hash_of l.h (drop l.c-index l.name) ≡ hash_of 0 l.name

@@ -1,7 +1,0 @@
-use Rattle.std.proofs.Common.{◌≡◌, map}
-use Rattle.std.specs.List.{range_with_len}
-use Rattle.c6x_elf_entries.specs.Entries.{rela_at}
-use Rattle.c6x_elf_entries.proofs.reader.read_relas.Given as goal
-
-abbrev pub invariant-loop-number : goal.invariant-loop-number
-invariant-loop-number l = l.relas.items ≡ map (rela_at l.big l.table) (range_with_len 0 l.number)

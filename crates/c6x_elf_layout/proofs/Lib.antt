@@ -1,3 +1,0 @@
-pub mod HeadRows
-pub mod Layouts
-pub mod Passing

@@ -1,5 +1,0 @@
-pub mod Steps
-pub mod RowFacts
-pub mod Held
-pub mod Whole
-pub mod Bytes

@@ -1,5 +1,0 @@
-use Rattle.c6x_fields.proofs.Whole.{whole}
-use Rattle.c6x_fields.proofs.laws.patched_bytes_are_one_list.Goals as goal
-
-pub returns : goal.returns
-returns c = λ old new fields small set. whole old new fields small set

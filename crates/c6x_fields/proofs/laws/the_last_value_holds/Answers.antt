@@ -1,5 +1,0 @@
-use Rattle.c6x_fields.proofs.Held.{field_held}
-use Rattle.c6x_fields.proofs.laws.the_last_value_holds.Goals as goal
-
-pub returns : goal.returns
-returns c = λ old new fields field small set last. field_held old new fields field small set last

@@ -1,5 +1,0 @@
-use Rattle.c6x_fill.proofs.ReadBack.{read_back}
-use Rattle.c6x_fill.proofs.laws.ranges_are_read_back.Goals as goal
-
-pub returns : goal.returns
-returns c = read_back

@@ -1,3 +1,0 @@
-pub mod Assembles
-pub mod Objects
-pub mod Words

@@ -1,5 +1,0 @@
-mod Shapes
-mod Members
-mod Lists
-mod Found
-mod Bound

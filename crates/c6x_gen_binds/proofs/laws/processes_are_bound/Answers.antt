@@ -1,5 +1,0 @@
-use Rattle.c6x_gen_binds.proofs.Bound.{all_bound}
-use Rattle.c6x_gen_binds.proofs.laws.processes_are_bound.Goals as goal
-
-pub returns : goal.returns
-returns c = all_bound

@@ -1,9 +1,0 @@
-use Rattle.c6x_gen_links.proofs.AppLinked.{executables_linked}
-use Rattle.c6x_gen_links.proofs.Libraries.{libraries_linked}
-use Rattle.c6x_gen_links.proofs.laws.objects_are_linked.Goals as goal
-
-pub returns-clause-executable : goal.returns-clause-executable
-returns-clause-executable c = executables_linked
-
-pub returns-clause-libraries : goal.returns-clause-libraries
-returns-clause-libraries c = libraries_linked

@@ -1,9 +1,0 @@
-use crate::Job;
-
-/// A memory access of 1, 2 or 4 bytes.
-#[derive(Clone, Copy, Debug, PartialEq, Eq)]
-pub struct MemOp {
-    pub address: u32,
-    pub size: u8,
-    pub job: Job,
-}

@@ -1,6 +1,0 @@
-use Rattle.std.proofs.Common.{◌≡◌, take}
-use Rattle.c6x_link_entries.specs.Entries.{dynamic_relas}
-use Rattle.c6x_link_entries.proofs.relas.dynamic_relas.Given as goal
-
-abbrev pub invariant-loop-entry : goal.invariant-loop-entry
-invariant-loop-entry l = l.relas.items ≡ dynamic_relas (take l.entry-index l.entries)

@@ -1,6 +1,0 @@
-use Rattle.std.proofs.Common.{◌≡◌}
-use Rattle.c6x_link_images.specs.Sections.{stub_bytes}
-use Rattle.c6x_link_images.proofs.stubs.stub_bytes.Given as goal
-
-abbrev pub invariant-loop-place : goal.invariant-loop-place
-invariant-loop-place l = l.bytes.items ≡ stub_bytes l.first l.place

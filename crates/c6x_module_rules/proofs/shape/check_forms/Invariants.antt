@@ -1,6 +1,0 @@
-use Rattle.std.proofs.Common.{◌≡◌, drop, false}
-use Rattle.c6x_module_rules.specs.Shape.{forms_along}
-use Rattle.c6x_module_rules.proofs.shape.check_forms.Given as goal
-
-abbrev pub invariant-loop-entry : goal.invariant-loop-entry
-invariant-loop-entry l = forms_along l.had (drop l.entry-index l.entries) ≡ forms_along false l.entries

@@ -1,4 +1,0 @@
-pub mod Stays
-pub mod Words
-pub mod Held
-pub mod Word

@@ -1,6 +1,0 @@
-use Rattle.c6x_moved.proofs.Word.{word_holds}
-use Rattle.c6x_moved.proofs.laws.words_hold.Goals as goal
-
-pub returns : goal.returns
-returns c = λ board at old bytes behind fields on small patched part place word i last is.
-    word_holds board at old bytes behind fields on small patched part place word i last is

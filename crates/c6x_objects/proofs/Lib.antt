@@ -1,4 +1,0 @@
-pub mod Few
-pub mod Listed
-pub mod Numbered
-pub mod Objects

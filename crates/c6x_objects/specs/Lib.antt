@@ -1,4 +1,0 @@
-pub mod Entries
-pub mod Objects
-pub mod Parts
-pub mod Sections

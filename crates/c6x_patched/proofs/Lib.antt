@@ -1,2 +1,0 @@
-pub mod WordSet
-pub mod RangePatched

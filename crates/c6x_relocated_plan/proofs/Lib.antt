@@ -1,6 +1,0 @@
-pub mod Alignments
-pub mod Texts
-pub mod Ranges
-pub mod Seats
-pub mod Members
-pub mod Relocated

@@ -1,7 +1,0 @@
-use Rattle.c6x_relocated_plan.proofs.Relocated.{plan_relocated}
-use Rattle.c6x_relocated_plan.proofs.laws.plans_are_relocated.Goals as goal
-
-pub returns : goal.returns
-returns c = λ board modules plans bounds placement loaded process f finding position m text base member objects plan of.
-    plan_relocated board modules plans bounds placement loaded process f finding position m text base member objects
-    plan of

@@ -1,6 +1,0 @@
-ghost use Rattle.c6x_search.specs.Search.{OneSearch};
-
-/// Each module has exactly one search list.
-pub fn one_search()
-    ensures { OneSearch }
-{}

@@ -1,6 +1,0 @@
-use Rattle.c6x_reloc.specs.Table.{row_of}
-use Rattle.c6x_shift.proofs.Sums.{table_value}
-use Rattle.c6x_shift.proofs.laws.table_shift.Goals as goal
-
-pub returns : goal.returns
-returns c = λ kind. table_value (row_of kind)
