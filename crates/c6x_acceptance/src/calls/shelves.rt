@@ -64,7 +64,7 @@ fn files_of_the_system(rt: HostRuntime) -> Result<(), Fail> {
     let alloc = rt.alloc();
     let id = std::process::id(rt.process());
     let path = format!(in alloc;
-        "{}/c6x_calls_{id}",
+        "{}/c6x_shelves_{id}",
         env::temp_dir(&rt)?.as_path().display()
     )?;
     let name = Name::from_bytes(alloc, path.as_bytes())?;

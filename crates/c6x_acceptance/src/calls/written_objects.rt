@@ -1,7 +1,7 @@
 ghost use Rattle.std.specs.Prelude.{false, IfOk};
 ghost use Rattle.c6x_elf.specs.Form.{IsTidy};
 
-use crate::objects::{bytes_of, section_count};
+use crate::calls::objects::{bytes_of, section_count};
 use c6x_asm::assemble;
 use c6x_base::Bytes;
 use c6x_elf::{ElfError, File, Section, is_tidy, read_file, write_file};

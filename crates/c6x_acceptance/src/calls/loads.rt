@@ -1,6 +1,6 @@
 ghost use Rattle.c6x_plan.specs.Limits.{IsRunPlan};
 
-use crate::images::plain_executable;
+use crate::calls::images::plain_executable;
 use c6x_base::{Name, Side};
 use c6x_board::Board;
 use c6x_elf::read_file;

@@ -1,4 +1,4 @@
-use crate::images::plain_executable;
+use crate::calls::images::plain_executable;
 use c6x_elf::{ElfError, ElfRule, File, is_tidy, read_file, write_file};
 use std::alloc::Global;
 use std::test::Fail;

@@ -1,4 +1,4 @@
-use crate::objects::{object_of, section_count};
+use crate::calls::objects::{object_of, section_count};
 use c6x_asm::{AsmError, AsmRule};
 use std::alloc::{AllocError, Global};
 use std::test::Fail;

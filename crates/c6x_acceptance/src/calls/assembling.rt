@@ -1,4 +1,4 @@
-use crate::objects::{broken_rule, bytes_of, object_of, section_count};
+use crate::calls::objects::{broken_rule, bytes_of, object_of, section_count};
 use c6x_asm::AsmRule;
 use std::test::Fail;
 

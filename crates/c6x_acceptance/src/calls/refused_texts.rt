@@ -1,4 +1,4 @@
-use crate::objects::broken_rule;
+use crate::calls::objects::broken_rule;
 use c6x_asm::AsmRule;
 use std::alloc::Global;
 use std::test::Fail;
