@@ -26,11 +26,12 @@ if [ "${1-}" = --one ]; then
     done
     mkdir "$room/crates/$2/must-fail"
     cp "$edits/$2"/*.edit "$room/crates/$2/must-fail/"
-    (cd "$room" && RT_JOBS=1 rt must-fail "$2" 2>&1) >"$room/said"
+    # `rt ci` takes what an earlier run proved of the crates below, where `rt must-fail` proves them again.
+    (cd "$room" && RT_JOBS=1 rt ci "$2" 2>&1) >"$room/said"
     status=$?
     tried=$(ls "$edits/$2"/*.edit | wc -l)
     refused=$(grep -c ': refused, as it must be' "$room/said")
-    grep -v "begins with what a check kept" "$room/said"
+    grep -E "must-fail|NOT PROVED|BAD EDIT|NOT TRIED|refused" "$room/said"
     echo "$2: $refused of $tried refused" | tee -a "$C6X_EDITS_COUNTS"
     [ $status -eq 0 ] && [ "$refused" -eq "$tried" ]
     exit
