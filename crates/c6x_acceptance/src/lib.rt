@@ -1,42 +1,23 @@
-//! Worked rows: commands over devices in memory, and what they leave; and worked calls.
+//! Worked calls of the libraries, with values that were worked out by hand, of what no row on `command` shows.
 //!
-//! The contract of `command` says what every call gives. These tests show that calls with ample memory give it, with
-//! texts, words and statuses that were worked out by hand or by a model. A row says what one command over its files
-//! gives; a table has the rows of one kind, and its test names the first that does not hold. `calls` has worked calls of the
-//! libraries below `command`.
+//! The contracts say what every call gives. These tests show that calls with ample memory give it, and what values come out.
 #![tactic(auto)]
 
 #[cfg(test)]
-mod assembling;
+mod areas;
 #[cfg(test)]
-mod calls;
+mod boards;
 #[cfg(test)]
-mod devices;
-#[cfg(test)]
-mod generated;
-#[cfg(test)]
-mod images;
-#[cfg(test)]
-mod in_order;
-#[cfg(test)]
-mod lengths;
-#[cfg(test)]
-mod linked;
-#[cfg(test)]
-mod linking;
-#[cfg(test)]
-mod listing;
-#[cfg(test)]
-mod map;
-#[cfg(test)]
-mod modules;
-#[cfg(test)]
-mod plans;
+mod entries;
 #[cfg(test)]
 mod policies;
 #[cfg(test)]
+mod relocations;
+#[cfg(test)]
 mod rows;
 #[cfg(test)]
-mod run;
+mod shelves;
 #[cfg(test)]
-mod turns;
+mod sinks;
+#[cfg(test)]
+mod tokens;

@@ -1,27 +1,27 @@
-use crate::devices::Devices;
+use c6x_base::{Bytes, Name, Row};
 use std::alloc::{AllocError, Global};
 
-/// A worked row: what commands over devices in memory give.
-pub trait Row {
-    /// The devices that it begins with.
-    fn begin(&self, alloc: Global) -> Result<Devices, AllocError>;
-
-    /// Whether all is as the row says.
-    fn holds(&self, alloc: Global, d: &mut Devices) -> Result<bool, AllocError>;
+/// A row that grew by 1, 2 and 3 and two zeros, and was written at its third place.
+fn grown(alloc: Global) -> Result<Vec<u8>, AllocError> {
+    let mut row = Row::new(alloc);
+    row.push(1)?;
+    row.extend(&[2, 3])?;
+    row.extend_zeros(2)?;
+    row.write(3, 4);
+    Ok(row.into_vec())
 }
 
-/// The number of the first row that does not hold.
-pub fn first_wrong<R: Row>(alloc: Global, rows: &[R]) -> Result<Option<usize>, AllocError> {
-    for (number, row) in rows.iter().enumerate() {
-        if !is_right(alloc, row)? {
-            return Ok(Some(number));
-        }
-    }
-    Ok(None)
-}
-
-/// Whether a row holds.
-fn is_right<R: Row>(alloc: Global, row: &R) -> Result<bool, AllocError> {
-    let mut d = row.begin(alloc)?;
-    row.holds(alloc, &mut d)
+#[test]
+fn memory_is_given(rt: HostRuntime) -> Result<(), AllocError> {
+    let alloc = rt.alloc();
+    let name = Name::from_bytes(alloc, b"app.out")?;
+    let copied = name.copy(alloc)?;
+    assert!(&rt; copied.as_bytes() == b"app.out".as_slice());
+    let bytes = Bytes::from_bytes(alloc, &[1, 2, 3])?;
+    assert!(&rt; bytes.as_bytes() == [1, 2, 3].as_slice());
+    let row = Row::of(vec![in alloc; 7u32, 8]?);
+    assert_eq!(&rt; row.as_slice().len(), 2);
+    assert_eq!(&rt; row.into_vec().len(), 2);
+    assert!(&rt; grown(alloc)?.as_slice() == [1, 2, 3, 4, 0].as_slice());
+    Ok(())
 }
